@@ -1,0 +1,28 @@
+//! What lies outside of `vfs`: the script's source, the sink of the transcript, the clock, the gate, the remote and the
+//! cache disk, each a trait with a written meaning, with fakes in memory and adapters over the real things.
+#![tactic(auto)]
+
+mod clock;
+mod disk;
+mod gate;
+mod listing;
+mod remote;
+mod sink;
+mod source;
+mod tree;
+
+pub use clock::{Clock, ScriptClock, StdClock};
+pub use disk::{CacheDisk, MemoryDisk};
+pub use gate::{Gate, OpenGate, Point};
+pub use listing::{Kind, Listing, NameRow, Names, Row, Rows};
+pub use remote::{MemoryRemote, Remote, RemoteCall, RemoteError};
+pub use sink::{MemorySink, Sink, StdSink};
+pub use source::{MemorySource, Source, StdSource};
+pub use tree::{TreeEntry, TreeKind};
+
+/// The call failed: the thing outside did not do it. It is the one error of a source or a sink.
+#[derive(Clone, Copy, Debug, PartialEq, Eq)]
+pub struct Failed;
+
+#[cfg(test)]
+mod tests;
