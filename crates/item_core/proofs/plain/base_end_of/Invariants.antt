@@ -1,0 +1,6 @@
+use Rattle.std.proofs.Common.{◌≡◌, take, reverse}
+use Rattle.item_core.specs.History.{size_of, base_end_of}
+use Rattle.item_core.proofs.plain.base_end_of.Given as goal
+
+abbrev pub invariant-loop-entry : goal.invariant-loop-entry
+invariant-loop-entry l = (l.size ≡ size_of (reverse (take l.entry-index l.entries))) × (l.base_end ≡ base_end_of (reverse (take l.entry-index l.entries)))

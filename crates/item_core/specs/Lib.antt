@@ -1,0 +1,9 @@
+pub mod Answer
+pub mod Content
+pub mod Effects
+pub mod History
+pub mod Laws
+pub mod Legal
+pub mod Log
+pub mod Names
+pub mod Step
