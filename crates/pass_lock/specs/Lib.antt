@@ -1,0 +1,5 @@
+pub mod Lists
+pub mod Rule
+pub mod Slots
+pub mod Passes
+pub mod Lent

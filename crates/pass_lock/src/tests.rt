@@ -1,0 +1,4 @@
+mod crowd;
+mod nested;
+mod notes;
+mod shelf;
