@@ -1,0 +1,14 @@
+mod Alone
+mod Counts
+mod Digits
+mod Escapes
+mod FlagWords
+mod Singles
+mod Misfits
+mod Numbers
+mod Paths
+mod Readings
+mod Sessions
+mod Splits
+mod Texts
+mod Uniqueness

@@ -1,0 +1,6 @@
+use Rattle.std.proofs.Common.{inl, []}
+use Rattle.session_script.proofs.Misfits.{exit_by}
+use Rattle.session_script.proofs.line.advance.Goals as goal
+
+pub returns-in_err-ms-clause-bad : goal.returns-in_err-ms-clause-bad
+returns-in_err-ms-clause-bad c = exit_by c.from_residual.result c.in_err-ms.field-0.0 c.from_residual.ensures.1 (λ why m. inl m) (c.in_err-ms.ensures.bad [])
