@@ -1,4 +1,4 @@
-ghost use Rattle.std.specs.Prelude.{◌≡◌, ◌+◌, ◌<◌, ◌≤◌, ◌^◌, ◌↔◌, ◌⊎◌, [], ◌∷◌, reverse, OnOk, OnErr, IfErr, IsTrue};
+ghost use Rattle.std.specs.Prelude.{◌≡◌, ◌+◌, ◌<◌, ◌≤◌, ◌^◌, ◌↔◌, ◌⊎◌, [], ◌∷◌, length, reverse, OnOk, OnErr, IfErr, IsTrue};
 ghost use Rattle.item_core.specs.Effects.{places};
 ghost use Rattle.item_core.specs.History.{size_of, base_end_of, held_by, is_kept, version_of, is_dirty, is_modified, opens_of, begun_of, is_owed};
 ghost use Rattle.item_core.specs.Legal.{IsLegal, MayFollow};
@@ -53,6 +53,13 @@ impl Core {
         ensures legal { IsLegal self.now.past }
     {
         self.entries.as_slice()
+    }
+
+    /// How many entries there are.
+    pub fn len(&self) -> u32
+        ensures { result ≡ length self.now.past }
+    {
+        self.entries.len().min(self.limit as usize) as u32
     }
 
     /// The entries, the oldest first.
