@@ -1,0 +1,9 @@
+mod Going
+mod Serving
+mod Listings
+mod Bytes
+mod PathLists
+mod Shelves
+mod Keeping
+mod Doing
+mod Served

@@ -1,0 +1,170 @@
+-- What a call does goes on from what was served.
+use Rattle.std.proofs.Common.{◌≡◌, ◌≤◌, ℕ, ◌++◌, ◌∙◌, ap, sym, refl, subst, inl, inr, arith, Bool, Option, None, Some, List, [], ◌∷◌, length, take, reverse, map, length-append, append-nil}
+use Rattle.std.specs.Prelude.{IsSomeAnd}
+use Rattle.std.proofs.lemmas.List.{take-append-le, map-append, reverse-append}
+use Rattle.vfs_names.specs.declared.who.Actor.TheVariants.{Session}
+use Rattle.vfs_names.specs.declared.who.By.{By}
+use Rattle.vfs_names.specs.declared.who.ItemId.{ItemId}
+use Rattle.vfs_outside.specs.declared.tree.TreeKind.TheVariants.{Closed}
+use Rattle.vfs_outside.specs.declared.tree.TreeEntry.{TreeEntry}
+use Rattle.item_core.specs.declared.entry.Entry.{Entry}
+use Rattle.item_core.specs.History.{is_dirty}
+use Rattle.session_script.specs.declared.call.Call.{Call}
+use Rattle.session_script.specs.declared.call.Call.TheVariants as call
+use Rattle.session_script.specs.declared.call.CallLine.{CallLine}
+use Rattle.session_text.specs.declared.reply.Record.{Record}
+use Rattle.one_session.specs.Calls.{IsFull, Answers, AnswersOpen, AnswersRead, AnswersWrite, AnswersClose, in_tree, TreeDoes, FileDoes, WasDirty}
+use Rattle.one_session.specs.Did.{Did, Grows}
+use Rattle.one_session.specs.Matching.{entries_of}
+use Rattle.one_session.specs.Served.{place_in, AreFull, end_after, file_then, reached, tree_then, Served, Fits, TreeMatches, FileMatches, in_tree_of, in_file_of, tree_place, file_place, open_at, open_after}
+use Rattle.one_session.specs.State.{State, History, entries_in, file_at}
+use Rattle.one_session.specs.Tree.{item_of}
+use Rattle.one_session.proofs.Going.{take_whole, stays, more_none, more_some}
+
+-- dirt before a place stays when files go on
+dirty_stays : (files files' : List History) (item k : ℕ) (dirty : Bool) → ((i : ℕ) → (more : List Entry) × (entries_in files' i ≡ entries_in files i ++ more)) → WasDirty files item k dirty → WasDirty files' item k dirty
+dirty_stays files files' item k dirty on w =
+    let more = (on item).0 in
+    let e = (on item).1 in
+    record {
+      inside = grind (arith, ap length e, length-append (entries_in files item) more, w.inside);
+      so = w.so ∙ ap (λ l. is_dirty (reverse l)) (sym (take-append-le k (entries_in files item) more (omega (arith, w.inside))) ∙ ap (take k) (sym e));
+    }
+
+-- what a close adds stays so
+dirty_in : (files files' : List History) (added : List TreeEntry) (by : By) (f : Option (ItemId × ℕ)) → ((i : ℕ) → (more : List Entry) × (entries_in files' i ≡ entries_in files i ++ more))
+    → IsSomeAnd f (λ (f : ItemId × ℕ). (dirty : Bool) × (added ≡ in_tree by (Closed f.0 dirty) ∷ []) × WasDirty files f.0.0 f.1 dirty) → IsSomeAnd f (λ (f : ItemId × ℕ). (dirty : Bool) × (added ≡ in_tree by (Closed f.0 dirty) ∷ []) × WasDirty files' f.0.0 f.1 dirty)
+dirty_in files files' added by None on h = h
+dirty_in files files' added by (Some f) on h = (h.0, h.1, dirty_stays files files' f.0.0 f.1 h.0 on h.2)
+
+tree_stays : (by : By) (files files' : List History) (done : Record) (c : Call) (before added : List TreeEntry) → ((i : ℕ) → (more : List Entry) × (entries_in files' i ≡ entries_in files i ++ more))
+    → TreeDoes by files c done before added → TreeDoes by files' c done before added
+tree_stays by files files' done (call.Open h path how) before added on d = d
+tree_stays by files files' done (call.Read h pos len) before added on d = d
+tree_stays by files files' done (call.Write h pos payload) before added on d = d
+tree_stays by files files' done (call.Size h size) before added on d = d
+tree_stays by files files' done (call.Close h) before added on d = (d.0, dirty_in files files' added by done.file on d.1)
+tree_stays by files files' done (call.Stat path) before added on d = d
+tree_stays by files files' done (call.List path) before added on d = d
+tree_stays by files files' done (call.MakeDir path) before added on d = d
+tree_stays by files files' done (call.RemoveDir path) before added on d = d
+tree_stays by files files' done (call.Unlink path) before added on d = d
+tree_stays by files files' done (call.Rename from to) before added on d = d
+
+-- a history that grows so goes on
+pub grown : {E : Type 0} (belongs : E → ℕ → Bool) (session : ℕ) (does : List E → List E → Type 0) (place : Option ℕ) (old new : List E) → Grows belongs session does place old new → (more : List E) × (new ≡ old ++ more)
+grown belongs session does place old new (inl h) = ([], h.0 ∙ sym (append-nil old))
+grown belongs session does place old new (inr h) = (h.0 ++ h.1 ∷ [], h.2)
+
+-- answers go by what each handle has open
+answers_along : (a b : ℕ → Option ℕ) (c : Call) (done : Record) → ((h : ℕ) → a h ≡ b h) → Answers a c done → Answers b c done
+answers_along a b (call.Open h path how) done e x = subst (λ o. AnswersOpen o done) (e h) x
+answers_along a b (call.Read h pos len) done e x = subst (λ o. AnswersRead o len done) (e h) x
+answers_along a b (call.Write h pos payload) done e x = subst (λ o. AnswersWrite o pos payload done) (e h) x
+answers_along a b (call.Size h size) done e x = x
+answers_along a b (call.Close h) done e x = subst (λ o. AnswersClose o done) (e h) x
+answers_along a b (call.Stat path) done e x = x
+answers_along a b (call.List path) done e x = x
+answers_along a b (call.MakeDir path) done e x = x
+answers_along a b (call.RemoveDir path) done e x = x
+answers_along a b (call.Unlink path) done e x = x
+answers_along a b (call.Rename from to) done e x = x
+
+-- the records of the calls so far, and of one more
+records_of : (older : List Served) (d : Served) → map (λ (d : Served). d.done) (reverse (d ∷ older)) ≡ map (λ (d : Served). d.done) (reverse older) ++ d.done ∷ []
+records_of older d = ap (map (λ (d : Served). d.done)) (reverse-append (d ∷ []) older) ∙ map-append (λ (d : Served). d.done) (reverse older) (d ∷ [])
+
+-- where a history ends after a call
+ended : {E : Type 0} (belongs : E → ℕ → Bool) (session : ℕ) (does : List E → List E → Type 0) (place : Option ℕ) (before : ℕ) (old new : List E) → Grows belongs session does place old new → before ≡ length old → end_after place before ≡ length new
+ended belongs session does place before old new (inl h) e = ap (λ p. end_after p before) h.1 ∙ e ∙ sym (ap length h.0)
+ended belongs session does place before old new (inr h) e = ap (λ p. end_after p before) h.3 ∙ grind (arith, ap length h.2, length-append old (h.0 ++ h.1 ∷ []), length-append h.0 (h.1 ∷ []))
+
+-- too few places, where the histories and handles are spelled otherwise
+full_along : (l l' : ℕ) (a b : List TreeEntry) (f g : ℕ → List Entry) (o p : ℕ → Option ℕ) (c : Call) → l ≡ l' → a ≡ b → ((i : ℕ) → f i ≡ g i) → ((h : ℕ) → o h ≡ p h) → IsFull l' b g p c → IsFull l a f o c
+full_along l l' a b f g o p (call.Open h path how) m e k q (inl x) = inl (rw (m, e) x)
+full_along l l' a b f g o p (call.Open h path how) m e k q (inr x) = inr (x.0, ap (λ t. item_of t path) e ∙ x.1, rw (m, k x.0) x.2)
+full_along l l' a b f g o p (call.Read h pos len) m e k q x = (x.0, q h ∙ x.1, rw (m, k x.0) x.2)
+full_along l l' a b f g o p (call.Write h pos payload) m e k q x = (x.0, q h ∙ x.1, rw (m, k x.0) x.2)
+full_along l l' a b f g o p (call.Size h size) m e k q x = x
+full_along l l' a b f g o p (call.Close h) m e k q x = x
+full_along l l' a b f g o p (call.Stat path) m e k q x = x
+full_along l l' a b f g o p (call.List path) m e k q x = x
+full_along l l' a b f g o p (call.MakeDir path) m e k q x = x
+full_along l l' a b f g o p (call.RemoveDir path) m e k q x = x
+full_along l l' a b f g o p (call.Unlink path) m e k q x = x
+full_along l l' a b f g o p (call.Rename from to) m e k q x = x
+
+-- a history doesn't end sooner after a call
+end_grows : (place : Option ℕ) (older n : ℕ) → end_after place older ≤ n → older ≤ n
+end_grows None older n le = le
+end_grows (Some k) older n le = omega (arith, le)
+
+-- causes stay when the histories go on
+full_stays : (served : List Served) (l' l : ℕ) (tree tree' : List TreeEntry) (files files' : List History) → l' ≡ l → (more : List TreeEntry) → tree' ≡ tree ++ more → ((i : ℕ) → (more : List Entry) × (entries_in files' i ≡ entries_in files i ++ more))
+    → reached tree_place served ≤ length tree → ((i : ℕ) → reached (file_place i) served ≤ length (entries_in files i)) → AreFull l tree files served → AreFull l' tree' files' served
+full_stays [] l' l tree tree' files files' e more on go in_tree in_file a = tt
+full_stays (d ∷ served) l' l tree tree' files files' e more on go in_tree in_file a =
+    let ends : reached tree_place served ≤ length tree = end_grows (tree_place d) (reached tree_place served) (length tree) in_tree in
+    let ends_in : (i : ℕ) → reached (file_place i) served ≤ length (entries_in files i) = λ i. end_grows (file_place i d) (reached (file_place i) served) (length (entries_in files i)) (in_file i) in (
+      λ h. full_along l' l (tree_then tree' served) (tree_then tree served) (file_then files' served) (file_then files served) (open_at served) (open_at served) d.line.call e
+          (ap (take (reached tree_place served)) on ∙ take-append-le (reached tree_place served) tree more ends)
+          (λ i. ap (take (reached (file_place i) served)) (go i).1 ∙ take-append-le (reached (file_place i) served) (entries_in files i) (go i).0 (ends_in i))
+          (λ h. refl) (a.0 h),
+      full_stays served l' l tree tree' files files' e more on go ends ends_in a.1,
+    )
+
+module _ (session : ℕ) (by : By) (line : CallLine) (done : Record) (s t : State) (own : by.who.actor ≡ Session session) (numbered : done.line ≡ line.line) (did : Did session by line.call done s t) where
+  files_on : (i : ℕ) → (more : List Entry) × (entries_in t.files i ≡ entries_in s.files i ++ more)
+  files_on i = grown in_file_of session (FileDoes by line.call done) _ _ _ (did.in_file i)
+
+  tree_on : (older : List Served) (more mine : List TreeEntry) → TreeMatches session s.files s.tree older mine → TreeMatches session t.files (s.tree ++ more) older mine
+  tree_on older more mine m = stays in_tree_of tree_place (λ older d before added. TreeDoes d.by s.files d.line.call d.done before added) (λ older d before added. TreeDoes d.by t.files d.line.call d.done before added)
+      (λ older d before added x. tree_stays d.by s.files t.files d.done d.line.call before added files_on x) session s.tree more older mine m
+
+  tree_by : (older : List Served) (new : List TreeEntry) → Grows in_tree_of session (TreeDoes by t.files line.call done) done.tree s.tree new
+      → TreeMatches session s.files s.tree older (entries_of in_tree_of session s.tree)
+      → TreeMatches session t.files new (record { by = by; line = line; done = done } ∷ older) (entries_of in_tree_of session new)
+  tree_by older new (inl h) m = subst (λ l. TreeMatches session t.files l (record { by = by; line = line; done = done } ∷ older) (entries_of in_tree_of session l)) (sym h.0)
+      (more_none in_tree_of tree_place (λ older d before added. TreeDoes d.by t.files d.line.call d.done before added) session s.tree older (entries_of in_tree_of session s.tree) (record { by = by; line = line; done = done }) h.1
+      (subst (λ l. TreeMatches session t.files l older (entries_of in_tree_of session s.tree)) (append-nil s.tree) (tree_on older [] (entries_of in_tree_of session s.tree) m)))
+  tree_by older new (inr h) m = subst (λ l. TreeMatches session t.files l (record { by = by; line = line; done = done } ∷ older) (entries_of in_tree_of session l)) (sym h.2)
+      (more_some in_tree_of tree_place (λ older d before added. TreeDoes d.by t.files d.line.call d.done before added) session s.tree h.0 h.1 older (record { by = by; line = line; done = done }) h.3 h.4 h.5 h.6
+      (tree_on older (h.0 ++ h.1 ∷ []) (entries_of in_tree_of session s.tree) m))
+
+  file_by : (item : ℕ) (older : List Served) (old new : List Entry) → Grows in_file_of session (FileDoes by line.call done) (place_in item done.file) old new
+      → FileMatches item session old older (entries_of in_file_of session old)
+      → FileMatches item session new (record { by = by; line = line; done = done } ∷ older) (entries_of in_file_of session new)
+  file_by item older old new (inl h) m = subst (λ l. FileMatches item session l (record { by = by; line = line; done = done } ∷ older) (entries_of in_file_of session l)) (sym h.0)
+      (more_none in_file_of (file_place item) (λ older d before added. FileDoes d.by d.line.call d.done before added) session old older (entries_of in_file_of session old) (record { by = by; line = line; done = done }) h.1 m)
+  file_by item older old new (inr h) m = subst (λ l. FileMatches item session l (record { by = by; line = line; done = done } ∷ older) (entries_of in_file_of session l)) (sym h.2)
+      (more_some in_file_of (file_place item) (λ older d before added. FileDoes d.by d.line.call d.done before added) session old h.0 h.1 older (record { by = by; line = line; done = done }) h.3 h.4 h.5 h.6
+      (stays in_file_of (file_place item) (λ older d before added. FileDoes d.by d.line.call d.done before added) (λ older d before added. FileDoes d.by d.line.call d.done before added)
+      (λ older d before added x. x) session old (h.0 ++ h.1 ∷ []) older (entries_of in_file_of session old) m))
+
+  handle_by : (older : List Served) (handle : ℕ) → Fits session older s → file_at t.table handle ≡ open_at (record { by = by; line = line; done = done } ∷ older) handle
+  handle_by older handle f = did.handles handle ∙ ap (open_after line.call done handle) (f.handles handle)
+
+  full_by : (older : List Served) → Fits session older s → AreFull t.limit t.tree t.files (record { by = by; line = line; done = done } ∷ older)
+  full_by older f =
+      let more_tree = grown in_tree_of session (TreeDoes by t.files line.call done) done.tree s.tree t.tree did.in_tree in
+      let tree : tree_then t.tree older ≡ s.tree = ap (λ l. take (reached tree_place older) l) more_tree.1 ∙ take_whole s.tree more_tree.0 _ f.tree_end in
+      let file : (i : ℕ) → file_then t.files older i ≡ entries_in s.files i = λ i. ap (λ l. take (reached (file_place i) older) l) (files_on i).1 ∙ take_whole (entries_in s.files i) (files_on i).0 _ (f.file_end i) in (
+        λ e. full_along t.limit s.limit (tree_then t.tree older) s.tree (file_then t.files older) (entries_in s.files) (open_at older) (file_at s.table) line.call
+            did.limit tree file (λ h. sym (f.handles h)) (did.full e),
+        full_stays older t.limit s.limit s.tree t.tree s.files t.files did.limit more_tree.0 more_tree.1 files_on (omega (arith, f.tree_end)) (λ i. omega (arith, f.file_end i)) f.matching.full,
+      )
+
+  pub goes : t.records ≡ s.records ++ done ∷ [] → (older : List Served) → Fits session older s → Fits session (record { by = by; line = line; done = done } ∷ older) t
+  goes e older f = record {
+    matching = record {
+      own = (own, f.matching.own);
+      answered = (numbered, answers_along (file_at s.table) (open_at older) line.call done f.handles did.answered, f.matching.answered);
+      tree = tree_by older t.tree did.in_tree f.matching.tree;
+      file = λ item. file_by item older (entries_in s.files item) (entries_in t.files item) (did.in_file item) (f.matching.file item);
+      full = full_by older f;
+    };
+    handles = λ handle. handle_by older handle f;
+    records = e ∙ ap (λ l. l ++ done ∷ []) f.records ∙ sym (records_of older (record { by = by; line = line; done = done }));
+    tree_end = ended in_tree_of session (TreeDoes by t.files line.call done) done.tree _ s.tree t.tree did.in_tree f.tree_end;
+    file_end = λ item. ended in_file_of session (FileDoes by line.call done) (place_in item done.file) _ (entries_in s.files item) (entries_in t.files item) (did.in_file item) (f.file_end item);
+  }

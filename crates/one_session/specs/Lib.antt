@@ -1,0 +1,13 @@
+pub mod Calls
+pub mod Matching
+pub mod Served
+pub mod State
+pub mod Tree
+pub mod Whole
+pub mod Logs
+pub mod Did
+pub mod Views
+pub mod TreeFacts
+pub mod FileFacts
+pub mod Sound
+pub mod Standing

@@ -1,0 +1,17 @@
+//! A law on what a call does. It holds whatever was stored.
+ghost use Rattle.std.specs.Prelude.{◌≡◌, ℕ, ◌++◌, [], ◌∷◌};
+ghost use Rattle.vfs_names.specs.declared.who.Actor.TheVariants.{Session};
+ghost use Rattle.vfs_names.specs.declared.who.By.{By};
+ghost use Rattle.session_script.specs.declared.call.CallLine.{CallLine};
+ghost use Rattle.session_text.specs.declared.reply.Record.{Record};
+ghost use Rattle.one_session.specs.Did.{Did};
+ghost use Rattle.one_session.specs.Served.{Serves};
+ghost use Rattle.one_session.specs.State.{State};
+
+/// A call that does what calls do, told by the state before it, leaves a state that matches all calls so far and it.
+pub fn what_a_call_does_matches()
+    ensures { (session : ℕ) (by : By) (line : CallLine) (done : Record) (s t : State)
+        → by.who.actor ≡ Session session → done.line ≡ line.line
+        → t.records ≡ s.records ++ done ∷ []
+        → Did session by line.call done s t → Serves session by line done s t }
+{}

@@ -1,0 +1,105 @@
+ghost use Rattle.std.specs.Prelude.{◌≡◌, ◌<◌, ◌≤◌, ◌+◌, [], map, OnOk, OnErr, IfOk};
+ghost use Rattle.vfs_names.specs.declared.who.Actor.TheVariants.{Session};
+ghost use Rattle.session_text.specs.declared.reply.Record.{Record};
+ghost use Rattle.one_session.specs.Logs.{history_of};
+ghost use Rattle.one_session.specs.Served.{Fits, HasRemoteCause, IsServable, Serves};
+ghost use Rattle.one_session.specs.Whole.{IsUpTo, IsWhole};
+
+use crate::EpochLog;
+use crate::outcome::Outcome;
+use crate::store::Store;
+use session_script::CallLine;
+use session_text::Record;
+use std::alloc::Global;
+use std::marker::Model;
+use vfs_names::{By, NoMemory};
+use vfs_outside::Remote;
+
+/// One session's calls on files that it makes. Contracts see its histories, its handles and its records.
+#[derive(Drop)]
+pub struct OneSession {
+    store: Store,
+    records: Vec<Record>,
+}
+
+impl Model for OneSession {
+    ghost use Rattle.std.specs.Prelude.{◌-◌, vec_len, vec_capacity};
+    ghost use Rattle.one_session.specs.Standing.{IsSoundStore, state_of};
+    ghost use Rattle.one_session.specs.State.{State};
+
+    ghost Value = { State };
+
+    ghost view = { λ s. state_of s.store s.records.items
+        (vec_capacity s.records - vec_len s.records) };
+
+    ghost invariant = { λ s. IsSoundStore s.store };
+}
+
+impl OneSession {
+    /// No call was served yet. Each history is to have at most `limit` places.
+    pub fn new(alloc: Global, limit: u32) -> Result<OneSession, NoMemory>
+        ensures fits { IfOk result (λ s. Fits 1 [] s) }
+        ensures limit { IfOk result (λ s. s.limit ≡ limit) }
+        ensures none { IfOk result (λ s. s.files ≡ []) }
+    {
+        match Store::new(alloc, limit) {
+            Ok(store) => Ok(OneSession {
+                store,
+                records: Vec::new(alloc),
+            }),
+            Err(NoMemory) => Err(NoMemory),
+        }
+    }
+
+    /// Makes room for the records of so many calls more.
+    pub fn reserve(&mut self, calls: usize) -> Result<(), NoMemory>
+        ensures ok { OnOk result (self.new ≡ record self.old { room = self.new.room }) }
+        ensures room { OnOk result (calls ≤ self.new.room) }
+        ensures err { OnErr result (self.new ≡ self.old) }
+    {
+        match self.records.reserve(calls) {
+            Ok(()) => Ok(()),
+            Err(_) => Err(NoMemory),
+        }
+    }
+
+    /// Serves a call of the session: does it, and records its answer. Takes constant time beside the bytes and names that
+    /// it handles, but for an open, which looks at each row of the root's listing.
+    pub fn serve<R: Remote>(&mut self, alloc: Global, remote: &mut R, by: By, line: &CallLine)
+        requires room { 0 < self.old.room }
+        requires servable { IsServable line.now.call }
+        requires session { line.now.session ≡ 1 }
+        requires actor { by.who.actor ≡ Session 1 }
+        requires pass { by.pass ≡ 0 }
+        requires later { IsUpTo by self.old.files }
+        ensures served { (done : Record) × Serves 1 by line.now done self.old self.new
+            × HasRemoteCause done (R.outside remote.old) (R.outside remote.new) }
+        ensures later { IsUpTo by self.new.files }
+        ensures room { self.old.room ≤ self.new.room + 1 }
+    {
+        let Outcome { reply, tree, file } = self.store.answer(alloc, remote, by, &line.call);
+        let done = Record {
+            line: line.line,
+            reply,
+            tree,
+            file,
+        };
+        self.records.push(done).unwrap();
+    }
+
+    /// The histories and the records, handed over; takes no memory.
+    pub fn into_log(self) -> EpochLog
+        ensures tree { result.tree.items ≡ self.tree }
+        ensures files { map history_of result.files.items ≡ self.files }
+        ensures records { result.records.items ≡ self.records }
+        ensures whole { IsWhole 1 self.tree self.files }
+    {
+        let OneSession { store, records } = self;
+        let Store { tree, files, .. } = store;
+        EpochLog {
+            tree: tree.into_entries(),
+            files: files.into_logs(),
+            records,
+        }
+    }
+}
