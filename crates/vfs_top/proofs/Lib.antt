@@ -1,0 +1,6 @@
+mod Begun
+pub mod Breaking
+pub mod Calls
+mod Going
+mod Pieces
+pub mod Texts

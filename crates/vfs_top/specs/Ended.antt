@@ -1,0 +1,91 @@
+-- How a run ends.
+use Rattle.std.specs.Prelude.{◌≡◌, ◌⊎◌, ℕ, Option, List, [], ◌∷◌}
+use Rattle.std.specs.Io.KnownBytes.{Appends}
+use Rattle.vfs_outside.specs.Causes.{AppendsFront, Rose}
+use Rattle.vfs_outside.specs.Outside.{Outside}
+use Rattle.session_script.specs.declared.call.Line.{Line}
+use Rattle.vfs_top.specs.Epoch.{Epoch}
+use Rattle.vfs_top.specs.Phase.{DoesFront, IsPhase}
+use Rattle.vfs_top.specs.Script.{IsReady}
+use Rattle.vfs_top.specs.Stop.{Stops, no_memory_text, status_of, stop_text}
+use Rattle.vfs_top.specs.Transcript.{replies_of, transcript}
+use Rattle.vfs_top.specs.declared.stop.Stop.{Stop}
+
+-- what the things outside tell at a moment: what the source has left, what the sink holds, how often each of the two
+-- failed, the clock's last answer, and the remote's counts
+pub record Told : Type 0 where
+  pub left : Option (List ℕ)
+  pub source_faults : ℕ
+  pub written : Option (List ℕ)
+  pub sink_faults : ℕ
+  pub moment : ℕ
+  pub remote : Outside
+
+abbrev pub told : Option (List ℕ) → ℕ → Option (List ℕ) → ℕ → ℕ → Outside → Told
+told left source_faults written sink_faults moment remote =
+    record { left = left; source_faults = source_faults; written = written; sink_faults = sink_faults; moment = moment; remote = remote }
+
+-- what is printed of a run with one epoch
+abbrev pub printed : Epoch → List ℕ
+printed e = transcript ((replies_of e, e) ∷ [])
+
+-- all lines were done in one epoch, and the whole transcript was written
+pub record DoesAll (written written' : Option (List ℕ)) (before after : ℕ) (old new : Outside) (script : List Line) (epochs : List Epoch) : Type 0 where
+  pub epoch : Epoch
+  pub kept : epochs ≡ epoch ∷ []
+  pub phase : IsPhase before after old new script epoch
+  pub text : Appends written written' (printed epoch)
+
+-- a front of the lines was done, and a front of their transcript was written
+pub record DoesSome (written written' : Option (List ℕ)) (before after : ℕ) (old new : Outside) (script : List Line) (epochs : List Epoch) : Type 0 where
+  pub epoch : Epoch
+  pub kept : epochs ≡ epoch ∷ []
+  pub did : DoesFront before after old new script epoch
+  pub text : AppendsFront written written' (printed epoch)
+
+-- nothing was done or written
+pub record DoesNothing (written written' : Option (List ℕ)) (epochs : List Epoch) : Type 0 where
+  pub none : epochs ≡ []
+  pub same : written' ≡ written
+
+-- the words are those of a run, the source was read to its end, and its script was done
+pub record Done (words : List (List ℕ)) (old new : Told) (epochs : List Epoch) : Type 0 where
+  pub script : List Line
+  pub ready : IsReady words old.left new.left script
+  pub all : DoesAll old.written new.written old.moment new.moment old.remote new.remote script epochs
+
+-- no call was run, and the reason was written
+pub record Stopped (words : List (List ℕ)) (old new : Told) (status : ℕ) (epochs : List Epoch) : Type 0 where
+  pub stop : Stop
+  pub ends : status ≡ status_of stop
+  pub cause : Stops words old.left new.left old.source_faults new.source_faults stop
+  pub text : Appends old.written new.written (stop_text stop)
+  pub none : epochs ≡ []
+
+-- a front of the reason why no call was run was written
+pub record BreaksStop (words : List (List ℕ)) (old new : Told) (epochs : List Epoch) : Type 0 where
+  pub stop : Stop
+  pub cause : Stops words old.left new.left old.source_faults new.source_faults stop
+  pub text : AppendsFront old.written new.written (stop_text stop)
+  pub none : epochs ≡ []
+
+-- a front of the script was done, and a front of its transcript was written
+pub record BreaksRun (words : List (List ℕ)) (old new : Told) (epochs : List Epoch) : Type 0 where
+  pub script : List Line
+  pub ready : IsReady words old.left new.left script
+  pub some : DoesSome old.written new.written old.moment new.moment old.remote new.remote script epochs
+
+-- a front of what would have been written was written, and each reply in it stands in the epochs
+abbrev pub Breaks : List (List ℕ) → Told → Told → List Epoch → Type 0
+Breaks words old new epochs = BreaksStop words old new epochs ⊎ BreaksRun words old new epochs
+
+-- the sink failed
+pub record Broken (words : List (List ℕ)) (old new : Told) (epochs : List Epoch) : Type 0 where
+  pub rose : Rose old.sink_faults new.sink_faults
+  pub front : Breaks words old new epochs
+
+-- memory was wanting: behind what was written till then comes a front of the lines that say so
+pub record Starved (words : List (List ℕ)) (old new : Told) (epochs : List Epoch) : Type 0 where
+  pub between : Option (List ℕ)
+  pub front : Breaks words old (record new { written = between }) epochs
+  pub text : AppendsFront between new.written no_memory_text

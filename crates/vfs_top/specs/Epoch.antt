@@ -1,0 +1,16 @@
+-- What is kept of an epoch.
+use Rattle.std.specs.Prelude.{List, map}
+use Rattle.session_text.specs.declared.reply.Record.{Record}
+use Rattle.vfs_outside.specs.declared.tree.TreeEntry.{TreeEntry}
+use Rattle.one_session.specs.State.{History}
+use Rattle.one_session.specs.declared.log.EpochLog.{EpochLog}
+pub use Rattle.one_session.specs.Logs.{history_of}
+
+-- the tree's history, the files' histories by number, and the records of the calls in their order
+pub record Epoch : Type 0 where
+  pub tree : List TreeEntry
+  pub files : List History
+  pub records : List Record
+
+abbrev pub epoch_of : EpochLog → Epoch
+epoch_of log = record { tree = log.tree.items; files = map history_of log.files.items; records = log.records.items }

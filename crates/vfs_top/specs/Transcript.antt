@@ -1,0 +1,56 @@
+-- What is printed of a run that does all of its script, as its bytes.
+use Rattle.std.specs.Prelude.{ℕ, ◌+◌, Bool, List, [], ◌∷◌, ◌++◌, map, filter, reverse}
+use Rattle.std.specs.List.{enumerate_from}
+use Rattle.vfs_names.specs.declared.calls.QueueRow.{QueueRow}
+use Rattle.item_core.specs.History.{is_owed}
+use Rattle.item_core.specs.Names.{name_of}
+use Rattle.session_text.specs.Entries.{file_block}
+use Rattle.session_text.specs.Lines.{end_text, queue_block, shown_text, start_text}
+use Rattle.session_text.specs.Tree.{tree_block}
+use Rattle.session_text.specs.declared.shown.Shown.{Shown}
+use Rattle.session_text.specs.declared.shown.Shown.TheVariants.{Replied}
+use Rattle.one_session.specs.State.{History}
+use Rattle.vfs_top.specs.Epoch.{Epoch}
+
+-- a file's history, with its number and the path that it has now
+abbrev pub file_text : ℕ → History → List ℕ
+file_text n file = file_block (record { 0 = n }) (name_of (reverse file.entries) (reverse file.names)) file.entries
+
+-- the files' histories, the first of them with this number
+abbrev pub file_texts : ℕ → List History → List ℕ
+file_texts n [] = []
+file_texts n (file ∷ files) = file_text n file ++ file_texts (n + 1) files
+
+-- a file, beside its number, waits for an upload
+abbrev pub is_waiting : ℕ × History → Bool
+is_waiting file = is_owed (reverse file.1.entries)
+
+-- its row: it is due five seconds after the start, and no upload of it failed
+abbrev pub row_of : ℕ × History → QueueRow
+row_of file = record { item = record { 0 = file.0 }; due = 5000; fails = 0 }
+
+-- the queue: the files that wait, by their numbers
+abbrev pub queue_of : List History → List QueueRow
+queue_of files = map row_of (filter is_waiting (enumerate_from 0 files))
+
+-- what is printed at an epoch's end: the histories and the queue
+abbrev pub end_block : Epoch → List ℕ
+end_block e = tree_block e.tree ++ file_texts 0 e.files ++ queue_block (queue_of e.files)
+
+-- what the lines of the script showed
+abbrev pub shown_texts : List Shown → List ℕ
+shown_texts [] = []
+shown_texts (shown ∷ others) = shown_text shown ++ shown_texts others
+
+-- of an epoch are printed its start, what its lines showed, and its end
+abbrev pub epoch_text : List Shown → Epoch → List ℕ
+epoch_text shown e = start_text 0 0 0 ++ shown_texts shown ++ end_block e
+
+-- the epochs, each with what its lines showed, and the last line
+abbrev pub transcript : List (List Shown × Epoch) → List ℕ
+transcript [] = end_text 0
+transcript (e ∷ es) = epoch_text e.0 e.1 ++ transcript es
+
+-- each call showed its reply
+abbrev pub replies_of : Epoch → List Shown
+replies_of e = map Replied e.records

@@ -1,0 +1,18 @@
+//! The program but for its devices: the words, the script and its calls, the transcript.
+#![tactic(auto)]
+
+mod epoch;
+mod input;
+mod phase;
+mod prepare;
+mod print;
+mod runner;
+mod script;
+mod stop;
+mod words;
+mod write;
+
+pub use runner::{Ended, run};
+
+#[cfg(test)]
+mod tests;

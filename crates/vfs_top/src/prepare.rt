@@ -1,0 +1,63 @@
+ghost use Rattle.std.specs.Prelude.{◌≡◌, ◌≤◌, IfErr, IfOk, length, map, string_bytes};
+ghost use Rattle.vfs_top.specs.Phase.{AreCalls};
+ghost use Rattle.vfs_top.specs.Script.{IsAllowed, IsReady, IsTooLong};
+ghost use Rattle.vfs_top.specs.Stop.{RefusesText, Stops};
+
+use crate::input::{Unread, read_all};
+use crate::stop::Stop;
+use crate::words::is_row;
+use session_script::{Limit, Script, ScriptError, check_lines, check_reads, read_script};
+use std::alloc::Global;
+use vfs_outside::Source;
+
+/// The script, where the words are those of a run and the script is in the language and within the limits.
+pub fn prepare<S: Source>(alloc: Global, words: &[String], source: &mut S) -> Result<Script, Stop>
+    ensures ready { IfOk result (λ script.
+        IsReady (map string_bytes words.now) (S.left source.old) (S.left source.new) script) }
+    ensures calls { IfOk result (λ script. AreCalls script) }
+    ensures stops { IfErr result (λ stop. Stops (map string_bytes words.now)
+        (S.left source.old) (S.left source.new) (S.faults source.old) (S.faults source.new) stop) }
+    ensures later { S.faults source.old ≤ S.faults source.new }
+{
+    if !is_row(words) {
+        return Err(Stop::Usage);
+    }
+    match read_all(alloc, source) {
+        Ok(text) => read_text(alloc, &text),
+        Err(why) => Err(stop_of(why)),
+    }
+}
+
+fn stop_of(why: Unread) -> Stop
+    ensures fault { why ≡ Unread.Fault → result ≡ Stop.Source }
+    ensures long { why ≡ Unread.TooLong → result ≡ Stop.Limit Limit.Script }
+    ensures no_memory { why ≡ Unread.NoMemory → result ≡ Stop.NoMemory }
+{
+    match why {
+        Unread::Fault => Stop::Source,
+        Unread::TooLong => Stop::Limit(Limit::Script),
+        Unread::NoMemory => Stop::NoMemory,
+    }
+}
+
+/// The script that a text is.
+#[tactic(auto, using(crate::proofs::Calls::are_calls))]
+fn read_text(alloc: Global, text: &[u8]) -> Result<Script, Stop>
+    requires { length text.now ≤ 16777216 }
+    ensures allowed { IfOk result (λ script. IsAllowed text.now script) }
+    ensures calls { IfOk result (λ script. AreCalls script) }
+    ensures refuses { IfErr result (λ stop. RefusesText text.now stop) }
+{
+    if check_lines(text).is_err() {
+        return Err(Stop::Limit(Limit::Lines));
+    }
+    let script = match read_script(alloc, text) {
+        Ok(script) => script,
+        Err(ScriptError::Refused { line, why }) => return Err(Stop::Refused { line, why }),
+        Err(ScriptError::NoMemory) => return Err(Stop::NoMemory),
+    };
+    match check_reads(&script) {
+        Ok(()) => Ok(script),
+        Err(_) => Err(Stop::Limit(Limit::Reads)),
+    }
+}

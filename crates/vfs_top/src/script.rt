@@ -1,0 +1,132 @@
+ghost use Rattle.std.specs.Prelude.{◌≡◌, ◌≢◌, ◌≤◌, ◌<◌, ◌⊎◌, ◌++◌, [], ◌∷◌, length, map, vec_capacity, vec_len, IfOk};
+ghost use Rattle.vfs_outside.specs.Causes.{Rose};
+ghost use Rattle.one_session.specs.Served.{Fits};
+ghost use Rattle.vfs_top.specs.Ended.{DoesAll, DoesNothing, DoesSome};
+ghost use Rattle.vfs_top.specs.Epoch.{epoch_of};
+ghost use Rattle.vfs_top.specs.Phase.{AreCalls, history_limit};
+
+use crate::epoch::{Ran, run_epoch};
+use crate::write::Unwritten;
+use one_session::{EpochLog, OneSession};
+use session_script::Line;
+use std::alloc::Global;
+use vfs_names::NoMemory;
+use vfs_outside::{Clock, Gate, Remote, Sink};
+
+/// The most places of a history.
+const HISTORY_LIMIT: u32 = 1_048_576;
+
+/// The status that a run ends with, and what was kept of its epochs.
+#[derive(Drop)]
+pub struct Kept {
+    pub status: u8,
+    pub epochs: Vec<EpochLog>,
+}
+
+/// Does the lines of a script. Its memory for what is kept is taken first, so that no record of a call that was done is
+/// lost. The status is 0, 5 or 8.
+pub fn run_script<K: Sink, R: Remote, C: Clock, G: Gate>(
+    alloc: Global,
+    sink: &mut K,
+    remote: &mut R,
+    clock: &mut C,
+    lines: &[Line],
+    gate: &G,
+) -> Kept
+    requires { AreCalls lines.now }
+    ensures all { result.status ≡ 0 → DoesAll (K.written sink.old) (K.written sink.new)
+        (C.moment clock.old) (C.moment clock.new) (R.outside remote.old) (R.outside remote.new)
+        lines.now (map epoch_of result.epochs.items) }
+    ensures some { result.status ≡ 5 → DoesSome (K.written sink.old) (K.written sink.new)
+        (C.moment clock.old) (C.moment clock.new) (R.outside remote.old) (R.outside remote.new)
+        lines.now (map epoch_of result.epochs.items) }
+    ensures starved { result.status ≡ 8 → DoesNothing (K.written sink.old) (K.written sink.new)
+        (map epoch_of result.epochs.items) ⊎ DoesSome (K.written sink.old) (K.written sink.new)
+        (C.moment clock.old) (C.moment clock.new) (R.outside remote.old) (R.outside remote.new)
+        lines.now (map epoch_of result.epochs.items) }
+    ensures rose { result.status ≡ 5 → Rose (K.faults sink.old) (K.faults sink.new) }
+    ensures ends { result.status ≢ 0 → result.status ≢ 5 → result.status ≡ 8 }
+{
+    let session = match begin(alloc, lines.len()) {
+        Ok(session) => session,
+        Err(NoMemory) => return no_memory(alloc),
+    };
+    match Vec::with_capacity(alloc, 1) {
+        Ok(epochs) => run_begun(alloc, session, epochs, sink, remote, clock, lines, gate),
+        Err(_) => no_memory(alloc),
+    }
+}
+
+/// Nothing was kept, since memory was wanting.
+pub fn no_memory(alloc: Global) -> Kept
+    ensures status { result.status ≡ 8 }
+    ensures none { result.epochs.items ≡ [] }
+{
+    Kept {
+        status: 8,
+        epochs: Vec::new(alloc),
+    }
+}
+
+/// A session with room for the records of so many calls.
+fn begin(alloc: Global, calls: usize) -> Result<OneSession, NoMemory>
+    ensures new { IfOk result (λ session. Fits 1 [] session) }
+    ensures limit { IfOk result (λ session. session.limit ≡ history_limit) }
+    ensures none { IfOk result (λ session. session.files ≡ []) }
+    ensures room { IfOk result (λ session. calls ≤ session.room) }
+{
+    let mut session = match OneSession::new(alloc, HISTORY_LIMIT) {
+        Ok(session) => session,
+        Err(NoMemory) => return Err(NoMemory),
+    };
+    match session.reserve(calls) {
+        Ok(()) => Ok(session),
+        Err(NoMemory) => Err(NoMemory),
+    }
+}
+
+/// Does the lines, and keeps the epoch.
+fn run_begun<K: Sink, R: Remote, C: Clock, G: Gate>(
+    alloc: Global,
+    session: OneSession,
+    epochs: Vec<EpochLog>,
+    sink: &mut K,
+    remote: &mut R,
+    clock: &mut C,
+    lines: &[Line],
+    gate: &G,
+) -> Kept
+    requires new { Fits 1 [] session }
+    requires limit { session.limit ≡ history_limit }
+    requires files { session.files ≡ [] }
+    requires calls { AreCalls lines.now }
+    requires records { length lines.now ≤ session.room }
+    requires none { epochs.items ≡ [] }
+    requires room { vec_len epochs < vec_capacity epochs }
+    ensures all { result.status ≡ 0 → DoesAll (K.written sink.old) (K.written sink.new)
+        (C.moment clock.old) (C.moment clock.new) (R.outside remote.old) (R.outside remote.new)
+        lines.now (map epoch_of result.epochs.items) }
+    ensures some { result.status ≢ 0 → DoesSome (K.written sink.old) (K.written sink.new)
+        (C.moment clock.old) (C.moment clock.new) (R.outside remote.old) (R.outside remote.new)
+        lines.now (map epoch_of result.epochs.items) }
+    ensures rose { result.status ≡ 5 → Rose (K.faults sink.old) (K.faults sink.new) }
+    ensures ends { result.status ≢ 0 → result.status ≢ 5 → result.status ≡ 8 }
+{
+    let Ran { log, wrote } = run_epoch(alloc, session, sink, remote, clock, lines, gate);
+    let epochs = keep(epochs, log);
+    match wrote {
+        Ok(()) => Kept { status: 0, epochs },
+        Err(Unwritten::Failed) => Kept { status: 5, epochs },
+        Err(Unwritten::NoMemory) => Kept { status: 8, epochs },
+    }
+}
+
+/// The epochs and one more, for which there is room.
+fn keep(epochs: Vec<EpochLog>, log: EpochLog) -> Vec<EpochLog>
+    requires { vec_len epochs < vec_capacity epochs }
+    ensures { result.items ≡ epochs.items ++ log ∷ [] }
+{
+    let mut epochs = epochs;
+    epochs.push(log).unwrap();
+    epochs
+}

@@ -1,0 +1,58 @@
+use std::alloc::Global;
+use vfs_names::{Blob, Fingerprint, VPath};
+use vfs_outside::{Kind, Listing, Remote, RemoteError, Row, Rows};
+
+/// A store whose root shows the file `shown`, or isn't there.
+#[derive(Drop)]
+pub struct OddRemote {
+    lists: u64,
+    faults: u64,
+    changes: u64,
+    missing: bool,
+}
+
+impl OddRemote {
+    pub fn new(missing: bool) -> OddRemote {
+        OddRemote {
+            lists: 0,
+            faults: 0,
+            changes: 0,
+            missing,
+        }
+    }
+}
+
+impl Remote for OddRemote {
+    ghost outside = { λ r. record { faults = r.faults; changes = r.changes; lists = r.lists } };
+
+    #[tactic(auto, unfolding(vfs_names::specs::Path::is_name))]
+    fn list(&mut self, alloc: Global, _dir: &VPath) -> Result<Listing, RemoteError> {
+        if self.missing {
+            self.changes = self.changes.saturating_add(1);
+            return Err(RemoteError::Missing);
+        }
+        let Some(number) = self.lists.checked_add(1) else {
+            self.faults = self.faults.saturating_add(1);
+            return Err(RemoteError::Failed);
+        };
+        self.lists = number;
+        let Ok(name) = Blob::from_slice(alloc, "shown".as_bytes()) else {
+            return Err(RemoteError::NoMemory);
+        };
+        let row = Row {
+            name,
+            kind: Kind::File,
+            print: Fingerprint {
+                size: 3,
+                mtime: 0,
+                rev: 1,
+            },
+        };
+        let mut rows = Vec::new(alloc);
+        if rows.push(row).is_err() {
+            return Err(RemoteError::NoMemory);
+        }
+        let rows = Rows::from_vec(rows);
+        Ok(Listing { number, rows })
+    }
+}

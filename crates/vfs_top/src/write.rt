@@ -1,0 +1,104 @@
+ghost use Rattle.std.specs.Prelude.{◌++◌, map};
+ghost use Rattle.session_text.specs.Lines.{end_text, start_text};
+ghost use Rattle.session_text.specs.declared.shown.Shown.TheVariants.{Replied};
+ghost use Rattle.vfs_top.specs.Epoch.{epoch_of};
+ghost use Rattle.vfs_outside.specs.Causes.{AppendsFront};
+ghost use Rattle.vfs_top.specs.Stop.{no_memory_text, stop_text};
+ghost use Rattle.vfs_top.specs.Transcript.{end_block, shown_texts};
+ghost use Rattle.vfs_top.specs.Writing.{Writes};
+
+use crate::print::{print_ending, print_replies};
+use crate::stop::{Stop, print_stop};
+use one_session::EpochLog;
+use session_text::print_start;
+use std::alloc::Global;
+use vfs_names::{Blob, NoMemory};
+use vfs_outside::Sink;
+
+/// Why a text wasn't written.
+#[derive(Clone, Copy, Debug, PartialEq, Eq)]
+pub enum Unwritten {
+    /// The sink failed; a front of the text may be written.
+    Failed,
+    /// Memory was wanting; a front of the text may be written.
+    NoMemory,
+}
+
+/// Writes a text that was printed, all at once.
+fn write<K: Sink>(sink: &mut K, text: &Blob) -> Result<(), Unwritten>
+    ensures { Writes (K.written sink.old) (K.written sink.new) (K.faults sink.old) (K.faults sink.new) text.now result }
+{
+    match sink.write(text.as_slice()) {
+        Ok(()) => Ok(()),
+        Err(_) => Err(Unwritten::Failed),
+    }
+}
+
+/// Writes that an epoch begins.
+#[tactic(auto, using(crate::proofs::Texts::none_written))]
+pub fn write_start<K: Sink>(alloc: Global, sink: &mut K) -> Result<(), Unwritten>
+    ensures { Writes (K.written sink.old) (K.written sink.new) (K.faults sink.old) (K.faults sink.new)
+        (start_text 0 0 0) result }
+{
+    let mut text = Blob::new(alloc);
+    match print_start(&mut text, 0, 0, 0) {
+        Ok(()) => write(sink, &text),
+        Err(NoMemory) => Err(Unwritten::NoMemory),
+    }
+}
+
+/// Writes the replies of an epoch's calls, and then its end.
+pub fn write_epoch<K: Sink>(alloc: Global, sink: &mut K, log: &EpochLog) -> Result<(), Unwritten>
+    ensures { Writes (K.written sink.old) (K.written sink.new) (K.faults sink.old) (K.faults sink.new)
+        (shown_texts (map Replied log.now.records.items) ++ (end_block (epoch_of log.now) ++ end_text 0)) result }
+{
+    match write_replies(alloc, sink, log) {
+        Ok(()) => write_ending(alloc, sink, log),
+        Err(why) => Err(why),
+    }
+}
+
+#[tactic(auto, using(crate::proofs::Texts::none_written))]
+fn write_replies<K: Sink>(alloc: Global, sink: &mut K, log: &EpochLog) -> Result<(), Unwritten>
+    ensures { Writes (K.written sink.old) (K.written sink.new) (K.faults sink.old) (K.faults sink.new)
+        (shown_texts (map Replied log.now.records.items)) result }
+{
+    let mut text = Blob::new(alloc);
+    match print_replies(&mut text, &log.records) {
+        Ok(()) => write(sink, &text),
+        Err(NoMemory) => Err(Unwritten::NoMemory),
+    }
+}
+
+#[tactic(auto, using(crate::proofs::Texts::none_written))]
+fn write_ending<K: Sink>(alloc: Global, sink: &mut K, log: &EpochLog) -> Result<(), Unwritten>
+    ensures { Writes (K.written sink.old) (K.written sink.new) (K.faults sink.old) (K.faults sink.new)
+        (end_block (epoch_of log.now) ++ end_text 0) result }
+{
+    let mut text = Blob::new(alloc);
+    match print_ending(alloc, &mut text, log) {
+        Ok(()) => write(sink, &text),
+        Err(NoMemory) => Err(Unwritten::NoMemory),
+    }
+}
+
+/// Writes why a run stops.
+#[tactic(auto, using(crate::proofs::Texts::none_written))]
+pub fn write_stop<K: Sink>(alloc: Global, sink: &mut K, stop: Stop) -> Result<(), Unwritten>
+    ensures { Writes (K.written sink.old) (K.written sink.new) (K.faults sink.old) (K.faults sink.new)
+        (stop_text stop) result }
+{
+    let mut text = Blob::new(alloc);
+    match print_stop(&mut text, stop) {
+        Ok(()) => write(sink, &text),
+        Err(NoMemory) => Err(Unwritten::NoMemory),
+    }
+}
+
+/// Writes that memory was wanting, or a front of that.
+#[tactic(auto, using(crate::proofs::Texts::some_written))]
+pub fn write_no_memory<K: Sink>(sink: &mut K)
+    ensures { AppendsFront (K.written sink.old) (K.written sink.new) no_memory_text }
+{
+    let _ = sink.write(b"no memory\nend 8\n");
+}
