@@ -1,0 +1,8 @@
+pub mod Keys
+pub mod Spans
+pub mod Written
+pub mod Within
+pub mod Digits
+pub mod Unique
+pub mod First
+pub mod Back
