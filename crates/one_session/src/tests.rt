@@ -2,12 +2,12 @@ ghost use Rattle.std.specs.Prelude.{◌≡◌, IfOk};
 ghost use Rattle.one_session.specs.Served.{IsServable};
 
 use crate::*;
+use remote_memory::MemoryRemote;
 use session_script::{Call, CallLine};
 use session_text::{Record, Reply};
 use std::alloc::Global;
 use std::test::Fail;
 use vfs_names::{Access, Actor, Blob, By, How, ItemId, Payload, Refusal, VPath, Who};
-use vfs_outside::MemoryRemote;
 
 const BY: By = By {
     who: Who {

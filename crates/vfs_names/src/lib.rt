@@ -14,7 +14,7 @@ pub use blob::Blob;
 pub use calls::{Access, At, How, QueueRow};
 pub use fingerprint::Fingerprint;
 pub use no_memory::NoMemory;
-pub use path::{NameError, VPath};
+pub use path::{NameError, VPath, is_name};
 pub use payload::Payload;
 pub use refusal::{Found, Refusal, Verb};
 pub use who::{Actor, By, ItemId, SlotId, Who};

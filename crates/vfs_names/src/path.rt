@@ -32,8 +32,9 @@ pub enum NameError {
     NoMemory,
 }
 
+/// Whether the text can be a name of a path, where no `/` stands in it.
 #[tactic(auto, unfolding(crate::specs::Path::is_name))]
-fn is_name(name: &str) -> bool
+pub fn is_name(name: &str) -> bool
     ensures { result ≡ is_name name.now }
 {
     let bytes = name.as_bytes();

@@ -1,13 +1,25 @@
-ghost use Rattle.std.specs.Prelude.{◌≡◌};
+ghost use Rattle.std.specs.Prelude.{◌≡◌, ◌↔◌, IsTrue};
+ghost use Rattle.vfs_outside.specs.RowName.{IsRowName};
 
 use std::marker::Model;
-use vfs_names::{Blob, Fingerprint};
+use std::str::from_utf8;
+use vfs_names::{Blob, Fingerprint, is_name};
 
 /// What a row of a directory names.
 #[derive(Clone, Copy, Debug, PartialEq, Eq)]
 pub enum Kind {
     Dir,
     File,
+}
+
+/// Whether these bytes can be a row's name: one name of a path, in UTF-8.
+pub fn is_row_name(bytes: &[u8]) -> bool
+    ensures { IsTrue result ↔ IsRowName bytes.now }
+{
+    match from_utf8(bytes) {
+        Ok(text) => is_name(text) && !bytes.contains(&b'/'),
+        Err(_) => false,
+    }
 }
 
 /// One row of a listing. The fingerprint of a directory is all zeros.

@@ -1,9 +1,10 @@
-ghost use Rattle.std.specs.Prelude.{◌≡◌};
-ghost use Rattle.vfs_outside.specs.Outside.{Outside, IsCall, IsNumbered, MayBeMissing};
+ghost use Rattle.std.specs.Prelude.{◌≡◌, [], ◌∷◌, IfOk};
+ghost use Rattle.vfs_outside.specs.Outside.{IsCall, IsNumbered, MayBeMissing, MayFail, Outside, StaysAlone, nothing};
+ghost use Rattle.vfs_outside.specs.Told.{FindsObject, ShowsRows};
 
-use crate::{Listing, Rows};
+use crate::{Listing, Object};
 use std::alloc::Global;
-use vfs_names::{NoMemory, VPath};
+use vfs_names::VPath;
 
 /// Why a store did not do a call.
 #[derive(Clone, Copy, Debug, PartialEq, Eq)]
@@ -18,73 +19,38 @@ pub enum RemoteError {
     NoMemory,
 }
 
-/// A store of objects.
+/// A store of objects. `OLD` and `NEW` in what follows are what it tells before and after a call.
 pub trait Remote: Drop {
+    type Object: Object;
+
+    // where it holds, `outside` has what stands in the store
+    ghost tells: { Type 0 };
+
     ghost outside: { Self → Outside };
+
+    /// The store of this name is ready.
+    fn attach(&mut self, name: &str) -> Result<(), RemoteError>
+        ensures call { IsCall MayFail nothing (outside self.old) (outside self.new) result }
+        ensures lists { (outside self.new).lists ≡ (outside self.old).lists }
+        ensures alone { StaysAlone (outside self.old) (outside self.new) };
 
     /// The rows of a directory, with a number greater than that of any earlier listing.
     fn list(&mut self, alloc: Global, dir: &VPath) -> Result<Listing, RemoteError>
-        ensures call { IsCall MayBeMissing (outside self.old) (outside self.new) result }
-        ensures number { IsNumbered (outside self.old) (outside self.new) result };
-}
+        ensures call { IsCall MayBeMissing nothing (outside self.old) (outside self.new) result }
+        ensures number { IsNumbered (outside self.old) (outside self.new) result }
+        ensures told { tells → ShowsRows dir.now (outside self.old) (outside self.new) result };
 
-/// A call of a store.
-#[derive(Clone, Copy, Debug, PartialEq, Eq)]
-pub enum RemoteCall {
-    List,
-}
+    /// The object that stands there.
+    fn open_object(&mut self, alloc: Global, path: &VPath) -> Result<Self::Object, RemoteError>
+        ensures call { IsCall MayBeMissing (λ o. (Self.Object.print_of o, Self.Object.bytes o) ∷ [])
+            (outside self.old) (outside self.new) result }
+        ensures lists { (outside self.new).lists ≡ (outside self.old).lists }
+        ensures path { IfOk result (λ o. Self.Object.path o ≡ path.now) }
+        ensures unasked { IfOk result (λ o. Self.Object.asked o ≡ []) }
+        ensures counts { IfOk result (λ o. (Self.Object.faults o ≡ 0) × (Self.Object.changes o ≡ 0)) }
+        ensures told { tells → FindsObject Self.Object.print_of Self.Object.bytes path.now
+            (outside self.old) (outside self.new) result };
 
-/// A store in memory that holds no object, with the numbers of the calls that are to fail; calls count from 1.
-#[derive(Debug, Drop)]
-pub struct MemoryRemote {
-    lists: u64,
-    fail: Vec<u64>,
-    faults: u64,
-    changes: u64,
-}
-
-impl MemoryRemote {
-    pub fn new(alloc: Global) -> MemoryRemote {
-        MemoryRemote {
-            lists: 0,
-            fail: Vec::new(alloc),
-            faults: 0,
-            changes: 0,
-        }
-    }
-
-    /// The call of this kind and number is to fail.
-    pub fn fail(&mut self, call: RemoteCall, nth: u64) -> Result<(), NoMemory> {
-        match call {
-            RemoteCall::List => self.fail.push(nth)?,
-        }
-        Ok(())
-    }
-
-    /// How often a directory was listed.
-    pub fn list_calls(&self) -> u64 {
-        self.lists
-    }
-}
-
-impl Remote for MemoryRemote {
-    ghost outside = { λ r. record { faults = r.faults; changes = r.changes; lists = r.lists } };
-
-    fn list(&mut self, alloc: Global, dir: &VPath) -> Result<Listing, RemoteError> {
-        let Some(number) = self.lists.checked_add(1) else {
-            self.faults = self.faults.saturating_add(1);
-            return Err(RemoteError::Failed);
-        };
-        self.lists = number;
-        if self.fail.contains(&number) {
-            self.faults = self.faults.saturating_add(1);
-            return Err(RemoteError::Failed);
-        }
-        if !dir.is_root() {
-            self.changes = self.changes.saturating_add(1);
-            return Err(RemoteError::Missing);
-        }
-        let rows = Rows::from_vec(Vec::new(alloc));
-        Ok(Listing { number, rows })
-    }
+    // an object of a store that tells is one that tells
+    ghost told_objects: { tells → Self.Object.tells };
 }

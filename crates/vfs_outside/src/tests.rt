@@ -1,6 +1,5 @@
 use crate::*;
 use std::test::Fail;
-use vfs_names::VPath;
 
 #[test]
 fn a_source_gives_its_bytes_and_fails_when_told(rt: HostRuntime) -> Result<(), Fail> {
@@ -51,25 +50,4 @@ fn clocks_never_fall(rt: HostRuntime) {
     let first = system.now();
     system.advance(7);
     assert!(rt; system.now() >= first.saturating_add(7));
-}
-
-#[test]
-fn an_empty_store_lists_its_root_alone(rt: HostRuntime) -> Result<(), Fail> {
-    let mut remote = MemoryRemote::new(rt.alloc());
-    remote.fail(RemoteCall::List, 2)?;
-    let root = VPath::root(rt.alloc());
-    let listing = remote.list(rt.alloc(), &root)?;
-    assert_eq!(rt; listing.number, 1);
-    assert_eq!(rt; listing.rows().len(), 0);
-    assert_eq!(rt;
-        remote.list(rt.alloc(), &root).err(),
-        Some(RemoteError::Failed)
-    );
-    let below = VPath::parse(rt.alloc(), "d")?;
-    assert_eq!(rt;
-        remote.list(rt.alloc(), &below).err(),
-        Some(RemoteError::Missing)
-    );
-    assert_eq!(rt; remote.list_calls(), 3);
-    Ok(())
 }

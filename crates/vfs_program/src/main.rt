@@ -1,10 +1,11 @@
 //! The program: runs the script on its standard input over a store and a cache in memory, and writes the transcript.
 #![tactic(auto)]
 
+use remote_memory::MemoryRemote;
 use std::process::ExitCode;
 use std::rt::Env;
 use std::{env, io};
-use vfs_outside::{MemoryDisk, MemoryRemote, OpenGate, ScriptClock, StdSink, StdSource};
+use vfs_outside::{MemoryDisk, OpenGate, ScriptClock, StdSink, StdSource};
 use vfs_top::run;
 
 /// The words after the program's name. Words that aren't UTF-8 are none that the program takes, as no words are.

@@ -1,11 +1,10 @@
 use crate::*;
+use remote_memory::{MemoryRemote, RemoteCall};
 use std::alloc::Global;
 use std::process::Abort;
 use std::test::Fail;
 use vfs_names::VPath;
-use vfs_outside::{
-    MemoryDisk, MemoryRemote, MemorySink, MemorySource, OpenGate, Remote, RemoteCall, ScriptClock,
-};
+use vfs_outside::{MemoryDisk, MemorySink, MemorySource, OpenGate, Remote, ScriptClock};
 
 mod odd_remote;
 

@@ -1,3 +1,4 @@
+use remote_memory::MemoryObject;
 use std::alloc::Global;
 use vfs_names::{Blob, Fingerprint, VPath};
 use vfs_outside::{Kind, Listing, Remote, RemoteError, Row, Rows};
@@ -23,7 +24,31 @@ impl OddRemote {
 }
 
 impl Remote for OddRemote {
-    ghost outside = { λ r. record { faults = r.faults; changes = r.changes; lists = r.lists } };
+    type Object = MemoryObject;
+
+    ghost use Rattle.std.specs.Prelude.{None, []};
+
+    ghost tells = { ⊥ };
+
+    ghost outside = { λ r. record {
+      store = λ path. None;
+      handed = [];
+      faults = r.faults;
+      changes = r.changes;
+      lists = r.lists;
+      others = 0;
+    } };
+
+    ghost told_objects = { λ t. absurd t };
+
+    fn attach(&mut self, _name: &str) -> Result<(), RemoteError> {
+        Ok(())
+    }
+
+    fn open_object(&mut self, _alloc: Global, _path: &VPath) -> Result<MemoryObject, RemoteError> {
+        self.changes = self.changes.saturating_add(1);
+        Err(RemoteError::Missing)
+    }
 
     #[tactic(auto, unfolding(vfs_names::specs::Path::is_name))]
     fn list(&mut self, alloc: Global, _dir: &VPath) -> Result<Listing, RemoteError> {

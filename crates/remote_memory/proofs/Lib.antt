@@ -1,0 +1,4 @@
+mod Beneath
+mod Choices
+mod Listed
+mod Others
