@@ -1,7 +1,10 @@
 pub mod Causes
+pub mod Disk
+pub mod Image
 pub mod Memory
 pub mod Object
 pub mod Outside
 pub mod RowName
+pub mod Slot
 pub mod Store
 pub mod Told

@@ -2,8 +2,11 @@
 //! cache disk, each a trait with a written meaning, with fakes in memory and adapters over the real things.
 #![tactic(auto)]
 
+mod cache_file;
 mod clock;
 mod disk;
+mod disk_error;
+mod file_call;
 mod gate;
 mod listing;
 mod object;
@@ -12,8 +15,11 @@ mod sink;
 mod source;
 mod tree;
 
+pub use cache_file::CacheFile;
 pub use clock::{Clock, ScriptClock, StdClock};
-pub use disk::{CacheDisk, MemoryDisk};
+pub use disk::CacheDisk;
+pub use disk_error::DiskError;
+pub use file_call::FileCall;
 pub use gate::{Gate, OpenGate, Point};
 pub use listing::{Kind, Listing, NameRow, Names, Row, Rows, is_row_name};
 pub use object::{Object, ObjectError};

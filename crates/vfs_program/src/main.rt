@@ -1,11 +1,12 @@
 //! The program: runs the script on its standard input over a store and a cache in memory, and writes the transcript.
 #![tactic(auto)]
 
+use cache_memory::MemoryDisk;
 use remote_memory::MemoryRemote;
 use std::process::ExitCode;
 use std::rt::Env;
 use std::{env, io};
-use vfs_outside::{MemoryDisk, OpenGate, ScriptClock, StdSink, StdSource};
+use vfs_outside::{OpenGate, ScriptClock, StdSink, StdSource};
 use vfs_top::run;
 
 /// The words after the program's name. Words that aren't UTF-8 are none that the program takes, as no words are.
@@ -35,7 +36,7 @@ fn main(rt: HostRuntime) -> ExitCode {
         &mut source,
         &mut sink,
         MemoryRemote::new(alloc),
-        MemoryDisk::new(),
+        MemoryDisk::new(alloc),
         &mut clock,
         &OpenGate,
     );

@@ -1,10 +1,11 @@
 use crate::*;
+use cache_memory::MemoryDisk;
 use remote_memory::{MemoryRemote, RemoteCall};
 use std::alloc::Global;
 use std::process::Abort;
 use std::test::Fail;
 use vfs_names::VPath;
-use vfs_outside::{MemoryDisk, MemorySink, MemorySource, OpenGate, Remote, ScriptClock};
+use vfs_outside::{MemorySink, MemorySource, OpenGate, Remote, ScriptClock};
 
 mod odd_remote;
 
@@ -75,7 +76,7 @@ fn run_over<R: Remote>(
         source,
         &mut sink,
         remote,
-        MemoryDisk::new(),
+        MemoryDisk::new(alloc),
         &mut clock,
         &OpenGate,
     );

@@ -1,0 +1,4 @@
+mod Bytes
+mod Calls
+mod Cuts
+mod Listed
