@@ -1,0 +1,5 @@
+pub mod Fills
+pub mod Fetched
+pub mod Steps
+pub mod Shown
+pub mod Asked
