@@ -1,449 +1,495 @@
--- The parts of a session's state fit together after one entry more.
-use Rattle.std.proofs.Common.{◌≡◌, ◌≢◌, ◌⊎◌, ◌<◌, ◌≤◌, ℕ, zero, suc, ◌+◌, ◌++◌, ◌∙◌, ap, sym, refl, subst, inl, inr, arith, Bool, true, false, Option, None, Some, List, [], ◌∷◌, length, map, reverse, set, get_or, cond, eqb, length-append, append-nil, length-set, zero-add}
-use Rattle.std.specs.List.{count_by, position}
-use Rattle.std.proofs.lemmas.Bool.{ne_eqb}
+-- The parts of a session's state fit together after one call more.
+use Rattle.std.proofs.Common.{◌≡◌, ◌≢◌, ◌⊎◌, ◌<◌, ◌≤◌, ℕ, zero, suc, ◌+◌, ◌-◌, ◌++◌, ◌∙◌, ap, sym, refl, subst, inl, inr, arith, Bool, true, false, Option, None, Some, List, [], ◌∷◌, length, map, reverse, set, get_or, cond, eqb, max, nat_lt, ◌||◌, length-append, append_assoc, append-nil, length-set}
+use Rattle.std.specs.List.{AllByRecursion, count_by, position}
+use Rattle.std.proofs.Math.Bool.{or-false, or-true}
+use Rattle.std.proofs.Math.Nat.{add-zero}
+use Rattle.std.proofs.lemmas.Bool.{ne_eqb, eq-eqb}
 use Rattle.std.proofs.lemmas.Bool.Decides.{eqb_tells}
-use Rattle.std.proofs.lemmas.List.{length-map, reverse-append, map-append, get_or-set_same, get_or-set_other}
-use Rattle.std.proofs.lemmas.List.Sums.{sum_by-append, sum_by-set}
+use Rattle.std.proofs.lemmas.List.{reverse-append, get_or-set_same, get_or-set_other}
 use Rattle.std.proofs.lemmas.Option.{none-some}
+use Rattle.vfs_names.specs.Path.{same_text}
+use Rattle.vfs_names.specs.declared.fingerprint.Fingerprint.{Fingerprint}
 use Rattle.vfs_names.specs.declared.who.Actor.TheVariants.{Session}
 use Rattle.vfs_names.specs.declared.who.By.{By}
-use Rattle.vfs_names.specs.declared.who.Who.{Who}
 use Rattle.vfs_outside.specs.declared.tree.TreeEntry.{TreeEntry}
-use Rattle.vfs_outside.specs.declared.tree.TreeKind.{TreeKind}
 use Rattle.vfs_outside.specs.declared.tree.TreeKind.TheVariants as tree
 use Rattle.item_core.specs.declared.entry.Entry.{Entry}
 use Rattle.item_core.specs.declared.entry.FileKind.{FileKind}
+use Rattle.item_core.specs.declared.entry.FileKind.TheVariants as file
 use Rattle.item_core.specs.Effects.{is_opened, is_closed, kept_after}
-use Rattle.item_core.specs.History.{count_of, made_by, opens_by}
+use Rattle.item_core.specs.History.{count_of, is_dirty, is_kept, made_by, opens_by, opens_of}
 use Rattle.item_core.specs.Legal.{IsNoLater}
-use Rattle.vfs_names.specs.Path.{same_text}
-use Rattle.one_session.specs.Calls.{ListsOnce, in_tree}
+use Rattle.memory_item.specs.Item.{in_file}
+use Rattle.one_session.specs.Calls.{in_tree}
 use Rattle.one_session.specs.Matching.{entries_of}
 use Rattle.one_session.specs.Served.{in_file_of, in_tree_of, is_session}
-use Rattle.one_session.specs.Sound.{IsSound, IsSoundFile, has_file, has_some}
-use Rattle.one_session.specs.State.{History, entries_in, file_at}
-use Rattle.one_session.specs.Tree.{is_open, is_close, item_of, made_before, made_paths}
-use Rattle.one_session.specs.Views.{add_to, with_more}
-use Rattle.one_session.specs.Whole.{IsUpTo}
+use Rattle.one_session.specs.Sound.{IsOwnPast, IsSound, IsSoundFile, IsTied, has_file, has_some}
+use Rattle.one_session.specs.Start.{opened_kind}
+use Rattle.one_session.specs.State.{History, entries_in, file_at, history_in, names_in}
+use Rattle.one_session.specs.Tree.{closed_in, closes_item, files_after, files_of, is_close, is_held, is_open, item_after, item_of, left_after, left_dirty, opened_in, opens_item}
+use Rattle.one_session.specs.Views.{add_to}
+use Rattle.one_session.specs.Whole.{IsNamed, IsUpTo, names_file}
+use Rattle.one_session.specs.declared.handle.Handle.{Handle}
 use Rattle.one_session.proofs.Going.{entries_of-append}
-use Rattle.one_session.proofs.Listings.{count_more}
-use Rattle.one_session.proofs.Shelves.{map_set, set_same, get_map}
+use Rattle.one_session.proofs.Tables.{at_put, opened_other, opened_own, opened_some, shut_other, shut_own, shut_some, some_open}
+use Rattle.one_session.proofs.Trees.{IsPlain, closed_more, closed_plain, count_more, files_more, item_more, item_plain, left_more, left_plain, opened_more, opened_plain}
 
-abbrev none : History
-none = record { entries = []; names = [] }
+-- one of the files goes on by these entries, and the others stay
+pub record Goes (files files' : List History) (item : ℕ) (more : List Entry) : Type 0 where
+  pub own : entries_in files' item ≡ entries_in files item ++ more
+  pub others : (i : ℕ) → i ≢ item → entries_in files' i ≡ entries_in files i
 
--- entries after one of the files goes on
-pub in_grown : (files : List History) (item : ℕ) (more : List Entry) → item < length files → entries_in (add_to files item more) item ≡ entries_in files item ++ more
-in_grown files item more lt = ap (λ (h : History). h.entries) (get_or-set_same files item (with_more more (get_or files item none)) none lt)
+pub goes_on : (files : List History) (item : ℕ) (more : List Entry) (names : List (List ℕ)) → item < length files → Goes files (add_to files item more names) item more
+goes_on files item more names lt = let none : History = record { entries = []; names = [] } in let new : History = record { entries = entries_in files item ++ more; names = names_in files item ++ names } in record {
+  own = ap (λ (h : History). h.entries) (get_or-set_same files item new none lt);
+  others = λ i ne. ap (λ (h : History). h.entries) (get_or-set_other files item i new none ne);
+}
 
-pub in_other : (files : List History) (item i : ℕ) (more : List Entry) → i ≢ item → entries_in (add_to files item more) i ≡ entries_in files i
-in_other files item i more ne = ap (λ (h : History). h.entries) (get_or-set_other files item i (with_more more (get_or files item none)) none ne)
+-- what stands after a file was added at the end
+pub last_is : (files : List History) (h : History) → history_in (files ++ h ∷ []) (length files) ≡ h
+last_is [] h = refl
+last_is (f ∷ files) h = last_is files h
 
-names_grown : (files : List History) (item : ℕ) (more : List Entry) → item < length files → map (λ (h : History). h.names) (add_to files item more) ≡ map (λ (h : History). h.names) files
-names_grown files item more lt = map_set (λ (h : History). h.names) files item (with_more more (get_or files item none))
-    ∙ set_same (map (λ (h : History). h.names) files) item (get_or files item none).names [] (grind (arith, length-map-names files, lt)) (sym (get_map (λ (h : History). h.names) files item none [] lt)) where
-      length-map-names : (files : List History) → length (map (λ (h : History). h.names) files) ≡ length files
-      length-map-names [] = refl
-      length-map-names (h ∷ hs) = ap suc (length-map-names hs)
-
--- entries after a file was added at the end
-pub in_last : (files : List History) (h : History) → entries_in (files ++ h ∷ []) (length files) ≡ h.entries
-in_last [] h = refl
-in_last (f ∷ files) h = in_last files h
-
-pub in_before : (files : List History) (h : History) (i : ℕ) → i ≢ length files → entries_in (files ++ h ∷ []) i ≡ entries_in files i
-in_before [] h zero ne = absurd (ne refl)
-in_before [] h (suc i) ne = refl
-in_before (f ∷ files) h zero ne = refl
-in_before (f ∷ files) h (suc i) ne = in_before files h i (λ e. ne (ap suc e))
+pub before_is : (files : List History) (h : History) (i : ℕ) → i ≢ length files → history_in (files ++ h ∷ []) i ≡ history_in files i
+before_is [] h zero ne = absurd (ne refl)
+before_is [] h (suc i) ne = refl
+before_is (f ∷ files) h zero ne = refl
+before_is (f ∷ files) h (suc i) ne = before_is files h i (λ e. ne (ap suc e))
 
 -- there is nothing past the last file
-pub in_none : (files : List History) (i : ℕ) → length files ≤ i → entries_in files i ≡ []
-in_none [] i le = refl
-in_none (f ∷ files) zero le = absurd (omega (arith, le))
-in_none (f ∷ files) (suc i) le = in_none files i (omega (arith, le))
+pub none_past : (files : List History) (i : ℕ) → length files ≤ i → entries_in files i ≡ []
+none_past [] i le = refl
+none_past (f ∷ files) zero le = absurd (omega (arith, le))
+none_past (f ∷ files) (suc i) le = none_past files i (omega (arith, le))
+
+pub goes_new : (files : List History) (more : List Entry) (names : List (List ℕ)) → Goes files (files ++ record { entries = more; names = names } ∷ []) (length files) more
+goes_new files more names = let h : History = record { entries = more; names = names } in record {
+  own = ap (λ (h : History). h.entries) (last_is files h) ∙ ap (λ l. l ++ more) (sym (none_past files (length files) (omega arith)));
+  others = λ i ne. ap (λ (h : History). h.entries) (before_is files h i ne);
+}
 
 -- what the session made is its own
-own_entry : (e : Entry) → e.by.who.actor ≡ Session 1 → in_file_of e 1 ≡ true
-own_entry e h = ap (λ a. is_session a 1) h
+own_entry : (by : By) (under : Bool) (kind : FileKind) → by.who.actor ≡ Session 1 → in_file_of (in_file by under kind) 1 ≡ true
+own_entry by under kind h = ap (λ a. is_session a 1) h
 
 pub own_in_tree : (e : TreeEntry) → e.by.who.actor ≡ Session 1 → in_tree_of e 1 ≡ true
 own_in_tree e h = ap (λ a. is_session a 1) h
 
-count_step : (such : FileKind → Bool) (e : Entry) (past : List Entry) (b : Bool) → such e.kind ≡ b → count_of such (e ∷ past) ≡ count_of such past + cond b 1 0
-count_step such e past true h = rw h refl
-count_step such e past false h = rw h (omega arith)
-
+-- one entry more
 made_step : (e : Entry) (past : List Entry) → e.by.pass ≡ 0 → made_by 0 (e ∷ past) ≡ e ∷ made_by 0 past
 made_step e past h = rw h refl
 
--- an entry after those of a file whose facts hold
-pub file_step : (table table' : List (Option ℕ)) (item : ℕ) (past : List Entry) (e : Entry) → IsSoundFile table item past
-    → kept_after e.kind true ≡ true → e.at ≡ 0 → e.by.who.actor ≡ Session 1 → e.by.pass ≡ 0 → IsNoLater past e.by
-    → count_by (has_file item) table + cond (is_opened e.kind) 1 0 ≡ count_by (has_file item) table' + cond (is_closed e.kind) 1 0
-    → IsSoundFile table' item (e ∷ past)
-file_step table table' item past e s kept at own pass later count = record {
-  kept = ap (kept_after e.kind) s.kept ∙ kept;
-  still = at;
-  handles = ap (count_of is_opened) (made_step e past pass) ∙ count_step is_opened e (made_by 0 past) (is_opened e.kind) refl
-      ∙ sums (count_of is_opened (made_by 0 past)) (count_of is_closed (made_by 0 past)) (cond (is_opened e.kind) 1 0) (cond (is_closed e.kind) 1 0) _ _ s.handles count
-      ∙ ap (λ n. n + count_by (has_file item) table') (sym (ap (count_of is_closed) (made_step e past pass) ∙ count_step is_closed e (made_by 0 past) (is_closed e.kind) refl));
-  alone = ap (entries_of in_file_of 1) (reverse-append (e ∷ []) past) ∙ entries_of-append in_file_of 1 (reverse past) (e ∷ [])
-      ∙ ap (λ l. l ++ entries_of in_file_of 1 (e ∷ [])) s.alone ∙ ap (λ b. reverse past ++ cond b (e ∷ []) []) (own_entry e own) ∙ sym (reverse-append (e ∷ []) past);
-  timely = (later, s.timely);
+own_step : (by : By) (under : Bool) (kind : FileKind) (past : List Entry) → by.who.actor ≡ Session 1 → by.pass ≡ 0 → IsNoLater past by → IsOwnPast past → IsOwnPast (in_file by under kind ∷ past)
+own_step by under kind past own pass later p = record {
+  still = refl;
+  pass = made_step (in_file by under kind) past pass ∙ ap (λ l. in_file by under kind ∷ l) p.pass;
+  alone = ap (entries_of in_file_of 1) (reverse-append (in_file by under kind ∷ []) past) ∙ entries_of-append in_file_of 1 (reverse past) (in_file by under kind ∷ [])
+      ∙ ap (λ l. l ++ entries_of in_file_of 1 (in_file by under kind ∷ [])) p.alone ∙ ap (λ b. reverse past ++ cond b (in_file by under kind ∷ []) []) (own_entry by under kind own) ∙ sym (reverse-append (in_file by under kind ∷ []) past);
+  timely = (no_later past by (in_file by under kind).by refl refl later, p.timely);
 } where
-  sums : (opens closes o c had has : ℕ) → opens ≡ closes + had → had + o ≡ has + c → opens + o ≡ (closes + c) + has
-  sums opens closes o c had has h k = omega (arith, h, k)
+  no_later : (past : List Entry) (a b : By) → a.who.phase ≡ b.who.phase → a.now ≡ b.now → IsNoLater past a → IsNoLater past b
+  no_later [] a b w n h = tt
+  no_later (x ∷ past) a b w n h = (omega (arith, w, h.0), omega (arith, n, h.1))
 
--- the same handles are open at another file
-file_same : (table table' : List (Option ℕ)) (item : ℕ) (past : List Entry) → count_by (has_file item) table' ≡ count_by (has_file item) table → IsSoundFile table item past → IsSoundFile table' item past
-file_same table table' item past e s = record { kept = s.kept; still = s.still; handles = s.handles ∙ ap (λ n. count_of is_closed (made_by 0 past) + n) (sym e); alone = s.alone; timely = s.timely }
+-- and some more
+turned : (e : Entry) (more past : List Entry) → reverse (e ∷ more) ++ past ≡ reverse more ++ (e ∷ past)
+turned e more past = ap (λ l. l ++ past) (reverse-append (e ∷ []) more) ∙ append_assoc (reverse more) (e ∷ []) past
+
+pub own_all : (by : By) (under : Bool) (kinds : List FileKind) (past : List Entry) → by.who.actor ≡ Session 1 → by.pass ≡ 0 → IsNoLater past by → IsOwnPast past → IsOwnPast (reverse (map (in_file by under) kinds) ++ past)
+own_all by under [] past own pass later p = p
+own_all by under (kind ∷ kinds) past own pass later p = subst IsOwnPast (sym (turned (in_file by under kind) (map (in_file by under) kinds) past))
+    (own_all by under kinds (in_file by under kind ∷ past) own pass (omega arith, omega arith) (own_step by under kind past own pass later p))
+
+later_all : (by : By) (under : Bool) (kinds : List FileKind) (past : List Entry) → IsNoLater past by → IsNoLater (reverse (map (in_file by under) kinds) ++ past) by
+later_all by under [] past later = later
+later_all by under (kind ∷ kinds) past later = subst (λ l. IsNoLater l by) (sym (turned (in_file by under kind) (map (in_file by under) kinds) past))
+    (later_all by under kinds (in_file by under kind ∷ past) (omega arith, omega arith))
+
+-- the history of the file that goes on, its newest entry first
+pub grown_past : {files files' : List History} {item : ℕ} {more : List Entry} → Goes files files' item more → reverse (entries_in files' item) ≡ reverse more ++ reverse (entries_in files item)
+grown_past {files = files} {item = item} {more = more} g = ap reverse g.own ∙ reverse-append (entries_in files item) more
+
+-- nothing is later than what was just made
+pub up_to : (files files' : List History) (item : ℕ) (by : By) (under : Bool) (kinds : List FileKind) → Goes files files' item (map (in_file by under) kinds) → IsUpTo by files → IsUpTo by files'
+up_to files files' item by under kinds g up i = at i (eqb_tells i item) where
+  at : (i : ℕ) → ((eqb i item ≡ true) × (i ≡ item)) ⊎ ((eqb i item ≡ false) × (i ≢ item)) → IsNoLater (reverse (entries_in files' i)) by
+  at i (inl h) = subst (λ j. IsNoLater (reverse (entries_in files' j)) by) (sym h.1)
+      (subst (λ l. IsNoLater l by) (sym (grown_past g)) (later_all by under kinds (reverse (entries_in files item)) (up item)))
+  at i (inr h) = subst (λ l. IsNoLater l by) (ap reverse (sym (g.others i h.1))) (up i)
 
 -- the tree and the table after a call
-pub record Fit (tree : List TreeEntry) (table : List (Option ℕ)) (count : ℕ) : Type 0 where
+pub record Fit (tree : List TreeEntry) (table : List (Option Handle)) (count : ℕ) : Type 0 where
   pub size : length table ≡ 256
-  pub handles : count_by (λ e. is_open e.kind) tree ≡ count_by (λ e. is_close e.kind) tree + count_by has_some table
-  pub inside : (handle item : ℕ) → file_at table handle ≡ Some item → item < count
+  pub handles : count_by (λ (e : TreeEntry). is_open e.kind) tree ≡ count_by (λ (e : TreeEntry). is_close e.kind) tree + count_by has_some table
+  pub inside : (handle : ℕ) (k : Handle) → file_at table handle ≡ Some k → k.item < count
   pub alone : entries_of in_tree_of 1 tree ≡ tree
 
--- one of the files goes on
-pub sound_grown : (tree tree' : List TreeEntry) (paths : List (List ℕ)) (files : List History) (table table' : List (Option ℕ)) (item : ℕ) (e : Entry) (by : By) → IsSound tree paths files table → item < length files
-    → e.by.who ≡ by.who → e.by.now ≡ by.now → e.by.pass ≡ by.pass → by.who.actor ≡ Session 1 → by.pass ≡ 0 → IsUpTo by files
-    → kept_after e.kind true ≡ true → e.at ≡ 0
-    → count_by (has_file item) table + cond (is_opened e.kind) 1 0 ≡ count_by (has_file item) table' + cond (is_closed e.kind) 1 0
-    → ((i : ℕ) → i ≢ item → count_by (has_file i) table' ≡ count_by (has_file i) table)
-    → made_paths tree' ≡ made_paths tree → Fit tree' table' (length files)
-    → IsSound tree' paths (add_to files item (e ∷ [])) table'
-sound_grown tree tree' paths files table table' item e by s lt whose when passed own pass up kept at count others made fit = record {
-  size = fit.size;
-  made = s.made ∙ sym made;
-  named = names_grown files item (e ∷ []) lt ∙ s.named ∙ ap (map (λ path. path ∷ [])) (sym made);
-  each = λ i inside. each i (eqb_tells i item) (omega (arith, length-set files item (with_more (e ∷ []) (get_or files item none)), inside));
-  handles = fit.handles;
-  inside = λ handle i h. omega (arith, length-set files item (with_more (e ∷ []) (get_or files item none)), fit.inside handle i h);
-  alone = fit.alone;
-} where
-  later : IsNoLater (reverse (entries_in files item)) e.by
-  later = no_later (reverse (entries_in files item)) by e.by (sym whose) (sym when) (up item) where
-    no_later : (past : List Entry) (a b : By) → a.who ≡ b.who → a.now ≡ b.now → IsNoLater past a → IsNoLater past b
-    no_later [] a b w n h = tt
-    no_later (x ∷ past) a b w n h = (subst (λ (who : Who). x.by.who.phase ≤ who.phase) w h.0, subst (λ now. x.by.now ≤ now) n h.1)
-
-  each : (i : ℕ) → ((eqb i item ≡ true) × (i ≡ item)) ⊎ ((eqb i item ≡ false) × (i ≢ item)) → i < length files → IsSoundFile table' i (reverse (entries_in (add_to files item (e ∷ [])) i))
-  each i (inl h) inside = subst (λ j. IsSoundFile table' j (reverse (entries_in (add_to files item (e ∷ [])) j))) (sym h.1)
-      (subst (λ l. IsSoundFile table' item l) (sym (ap reverse (in_grown files item (e ∷ []) lt) ∙ reverse-append (entries_in files item) (e ∷ [])))
-      (file_step table table' item (reverse (entries_in files item)) e (s.each item lt) kept at (ap (λ (w : Who). w.actor) whose ∙ own) (passed ∙ pass) later count))
-  each i (inr h) inside = subst (λ l. IsSoundFile table' i l) (ap reverse (sym (in_other files item i (e ∷ []) h.1))) (file_same table table' i (reverse (entries_in files i)) (others i h.1) (s.each i inside))
-
--- the entries of the files aren't later after one more by the same maker
-pub up_grown : (files : List History) (item : ℕ) (e : Entry) (by : By) → item < length files → e.by.who ≡ by.who → e.by.now ≡ by.now → IsUpTo by files → IsUpTo by (add_to files item (e ∷ []))
-up_grown files item e by lt whose when up i = at i (eqb_tells i item) where
-  at : (i : ℕ) → ((eqb i item ≡ true) × (i ≡ item)) ⊎ ((eqb i item ≡ false) × (i ≢ item)) → IsNoLater (reverse (entries_in (add_to files item (e ∷ [])) i)) by
-  at i (inl h) = subst (λ j. IsNoLater (reverse (entries_in (add_to files item (e ∷ [])) j)) by) (sym h.1)
-      (subst (λ l. IsNoLater l by) (sym (ap reverse (in_grown files item (e ∷ []) lt) ∙ reverse-append (entries_in files item) (e ∷ [])))
-      (omega (arith, ap (λ (w : Who). w.phase) whose), omega (arith, when)))
-  at i (inr h) = subst (λ l. IsNoLater l by) (ap reverse (sym (in_other files item i (e ∷ []) h.1))) (up i)
-
--- a handle that has a file open is counted
-counted : (o : Option ℕ) (item : ℕ) → o ≡ Some item → ◌≡◌ {A = ℕ} (cond (has_file item o) 1 0) 1
-counted o item h = let f : Option ℕ → ℕ = λ q. cond (has_file item q) 1 0 in ap f h ∙ one (eqb_tells item item) where
-  one : ((eqb item item ≡ true) × (item ≡ item)) ⊎ ((eqb item item ≡ false) × (item ≢ item)) → ◌≡◌ {A = ℕ} (cond (eqb item item) 1 0) 1
-  one (inl h) = let f : Bool → ℕ = λ b. cond b 1 0 in ap f h.0
-  one (inr h) = absurd (h.1 refl)
-
-pub some_open : (table : List (Option ℕ)) (handle item : ℕ) → file_at table handle ≡ Some item → 0 < count_by (has_file item) table
-some_open [] handle item h = absurd (none-some item h)
-some_open (o ∷ table) zero item h = let f : Option ℕ → ℕ = λ x. cond (has_file item x) 1 0 in
-    omega (arith, sum_by-append f (o ∷ []) table, zero-add (f o), counted o item h)
-some_open (o ∷ table) (suc handle) item h = let f : Option ℕ → ℕ = λ x. cond (has_file item x) 1 0 in
-    omega (arith, sum_by-append f (o ∷ []) table, some_open table handle item h)
-
--- the file of an open handle can be read, written and closed
-pub is_ready : (tree : List TreeEntry) (paths : List (List ℕ)) (files : List History) (table : List (Option ℕ)) (handle item pass : ℕ) → IsSound tree paths files table → file_at table handle ≡ Some item → pass ≡ 0
-    → (item < length files) × (0 < opens_by pass (reverse (entries_in files item)))
-is_ready tree paths files table handle item pass s h p =
-    let lt = s.inside handle item h in
-    (lt, subst (λ n. 0 < opens_by n (reverse (entries_in files item))) (sym p) (omega (arith, (s.each item lt).handles, some_open table handle item h)))
-
--- no handle changes
-pub same_fit : (tree : List TreeEntry) (paths : List (List ℕ)) (files : List History) (table : List (Option ℕ)) → IsSound tree paths files table → Fit tree table (length files)
-same_fit tree paths files table s = record { size = s.size; handles = s.handles; inside = s.inside; alone = s.alone }
-
--- the paths that a longer tree made
-made_by_kind : (kind : TreeKind) (a b : List (List ℕ)) → made_before kind (a ++ b) ≡ made_before kind a ++ b
-made_by_kind (tree.Kept path item dirty) a b = refl
-made_by_kind (tree.Listed dir listing) a b = refl
-made_by_kind (tree.Opened path item print) a b = refl
-made_by_kind (tree.Created path item) a b = refl
-made_by_kind (tree.Closed item dirty) a b = refl
-made_by_kind (tree.Stored path print) a b = refl
-made_by_kind (tree.Gone path) a b = refl
-made_by_kind (tree.Removed path) a b = refl
-made_by_kind (tree.Renamed from to) a b = refl
-made_by_kind (tree.MadeDir path) a b = refl
-made_by_kind (tree.UnmadeDir path) a b = refl
-made_by_kind (tree.Polled dirs) a b = refl
-made_by_kind (tree.Forgot path) a b = refl
-made_by_kind (tree.DirectRead path print) a b = refl
-made_by_kind (tree.Direct path) a b = refl
-made_by_kind (tree.Undirect path) a b = refl
-made_by_kind (tree.Asked verb path) a b = refl
-made_by_kind (tree.Refused verb path why) a b = refl
-
-pub made_append : (xs ys : List TreeEntry) → made_paths (xs ++ ys) ≡ made_paths xs ++ made_paths ys
-made_append [] ys = refl
-made_append (e ∷ xs) ys = ap (made_before e.kind) (made_append xs ys) ∙ made_by_kind e.kind (made_paths xs) (made_paths ys)
-
--- the file of a handle after another was put there
-pub at_put : (table : List (Option ℕ)) (h handle : ℕ) (v : Option ℕ) → h < length table → file_at (set table h v) handle ≡ cond (eqb h handle) v (file_at table handle)
-at_put table h handle v lt = tell (eqb_tells h handle) where
-  tell : ((eqb h handle ≡ true) × (h ≡ handle)) ⊎ ((eqb h handle ≡ false) × (h ≢ handle)) → file_at (set table h v) handle ≡ cond (eqb h handle) v (file_at table handle)
-  tell (inl k) = subst (λ j. file_at (set table h v) j ≡ v) k.1 (get_or-set_same table h v None lt) ∙ sym (ap (λ b. cond b v (file_at table handle)) k.0)
-  tell (inr k) = get_or-set_other table h handle v None (λ e. k.1 (sym e)) ∙ sym (ap (λ b. cond b v (file_at table handle)) k.0)
-
--- how many handles pass a test after one was changed
-pub count_put : (test : Option ℕ → Bool) (table : List (Option ℕ)) (h : ℕ) (v : Option ℕ) → h < length table → count_by test (set table h v) + cond (test (file_at table h)) 1 0 ≡ count_by test table + cond (test v) 1 0
-count_put test table h v lt = let f : Option ℕ → ℕ = λ x. cond (test x) 1 0 in sum_by-set f table h v None lt
-
-counted_some : (o : Option ℕ) (item : ℕ) → o ≡ Some item → ◌≡◌ {A = ℕ} (cond (has_some o) 1 0) 1
-counted_some o item h = let f : Option ℕ → ℕ = λ q. cond (has_some q) 1 0 in ap f h
-
-counted_other : (o : Option ℕ) (item i : ℕ) → o ≡ Some item → i ≢ item → ◌≡◌ {A = ℕ} (cond (has_file i o) 1 0) 0
-counted_other o item i h ne = let f : Option ℕ → ℕ = λ q. cond (has_file i q) 1 0 in let g : Bool → ℕ = λ b. cond b 1 0 in ap f h ∙ ap g (ne_eqb item i (λ e. ne (sym e)))
-
-counted_none : (o : Option ℕ) (i : ℕ) → o ≡ None → ◌≡◌ {A = ℕ} (cond (has_file i o) 1 0) 0
-counted_none o i h = let f : Option ℕ → ℕ = λ q. cond (has_file i q) 1 0 in ap f h
-
-none_some : (o : Option ℕ) → o ≡ None → ◌≡◌ {A = ℕ} (cond (has_some o) 1 0) 0
-none_some o h = let f : Option ℕ → ℕ = λ q. cond (has_some q) 1 0 in ap f h
-
--- a handle is closed
-pub shut_own : (table : List (Option ℕ)) (h item : ℕ) → h < length table → file_at table h ≡ Some item → count_by (has_file item) (set table h None) + 1 ≡ count_by (has_file item) table
-shut_own table h item lt at = omega (arith, count_put (has_file item) table h None lt, counted (file_at table h) item at)
-
-pub shut_other : (table : List (Option ℕ)) (h item i : ℕ) → h < length table → file_at table h ≡ Some item → i ≢ item → count_by (has_file i) (set table h None) ≡ count_by (has_file i) table
-shut_other table h item i lt at ne = omega (arith, count_put (has_file i) table h None lt, counted_other (file_at table h) item i at ne)
-
-shut_some : (table : List (Option ℕ)) (h item : ℕ) → h < length table → file_at table h ≡ Some item → count_by has_some (set table h None) + 1 ≡ count_by has_some table
-shut_some table h item lt at = omega (arith, count_put has_some table h None lt, counted_some (file_at table h) item at)
-
--- a handle is opened
-pub opened_own : (table : List (Option ℕ)) (h item : ℕ) → h < length table → file_at table h ≡ None → count_by (has_file item) (set table h (Some item)) ≡ count_by (has_file item) table + 1
-opened_own table h item lt at = omega (arith, count_put (has_file item) table h (Some item) lt, counted_none (file_at table h) item at, counted (Some item) item refl)
-
-pub opened_other : (table : List (Option ℕ)) (h item i : ℕ) → h < length table → file_at table h ≡ None → i ≢ item → count_by (has_file i) (set table h (Some item)) ≡ count_by (has_file i) table
-opened_other table h item i lt at ne = omega (arith, count_put (has_file i) table h (Some item) lt, counted_none (file_at table h) i at, counted_other (Some item) item i refl ne)
-
-opened_some : (table : List (Option ℕ)) (h item : ℕ) → h < length table → file_at table h ≡ None → count_by has_some (set table h (Some item)) ≡ count_by has_some table + 1
-opened_some table h item lt at = omega (arith, count_put has_some table h (Some item) lt, none_some (file_at table h) at, counted_some (Some item) item refl)
-
--- the tree has one entry more
 alone_more : (es : List TreeEntry) (e : TreeEntry) → e.by.who.actor ≡ Session 1 → entries_of in_tree_of 1 es ≡ es → entries_of in_tree_of 1 (es ++ e ∷ []) ≡ es ++ e ∷ []
 alone_more es e own h = entries_of-append in_tree_of 1 es (e ∷ []) ∙ ap (λ l. l ++ entries_of in_tree_of 1 (e ∷ [])) h ∙ ap (λ b. es ++ cond b (e ∷ []) []) (own_in_tree e own)
 
+same_fit : (es : List TreeEntry) (paths : List (List ℕ)) (files : List History) (table : List (Option Handle)) → IsSound es paths files table → Fit es table (length files)
+same_fit es paths files table s = record { size = s.size; handles = s.handles; inside = s.inside; alone = s.alone }
+
+plus : (n : ℕ) (b : Bool) → b ≡ false → n + cond b 1 0 ≡ n
+plus n b e = rw e (omega arith)
+
+plus_one : (n : ℕ) (b : Bool) → b ≡ true → n + cond b 1 0 ≡ n + 1
+plus_one n b e = rw e refl
+
+-- what is counted of handles that were put into the table
+put_inside : (table : List (Option Handle)) (h : ℕ) (v : Option Handle) (count count' : ℕ) → h < length table → count ≤ count' → ((k : Handle) → v ≡ Some k → k.item < count')
+    → ((handle : ℕ) (k : Handle) → file_at table handle ≡ Some k → k.item < count) → (handle : ℕ) (k : Handle) → file_at (set table h v) handle ≡ Some k → k.item < count'
+put_inside table h v count count' lt le new old handle k = tell (eqb_tells h handle) where
+  tell : ((eqb h handle ≡ true) × (h ≡ handle)) ⊎ ((eqb h handle ≡ false) × (h ≢ handle)) → file_at (set table h v) handle ≡ Some k → k.item < count'
+  tell (inl t) e = new k (sym (at_put table h handle v lt ∙ ap (λ b. cond b v (file_at table handle)) t.0) ∙ e)
+  tell (inr t) e = omega (arith, le, old handle k (sym (at_put table h handle v lt ∙ ap (λ b. cond b v (file_at table handle)) t.0) ∙ e))
+
 -- the tree and the table fit after a close
-pub fit_shut : (es : List TreeEntry) (e : TreeEntry) (table : List (Option ℕ)) (h item count : ℕ) → Fit es table count → is_open e.kind ≡ false → is_close e.kind ≡ true → e.by.who.actor ≡ Session 1
-    → h < length table → file_at table h ≡ Some item → Fit (es ++ e ∷ []) (set table h None) count
-fit_shut es e table h item count f o c own lt at = record {
+fit_shut : (es : List TreeEntry) (e : TreeEntry) (table : List (Option Handle)) (h : ℕ) (k : Handle) (count : ℕ) → Fit es table count → is_open e.kind ≡ false → is_close e.kind ≡ true → e.by.who.actor ≡ Session 1
+    → h < length table → file_at table h ≡ Some k → Fit (es ++ e ∷ []) (set table h None) count
+fit_shut es e table h k count f o c own lt at = record {
   size = length-set table h None ∙ f.size;
   handles = closed _ _ _ (count_more (λ (x : TreeEntry). is_open x.kind) es e ∙ plus (count_by (λ (x : TreeEntry). is_open x.kind) es) (is_open e.kind) o)
-      (count_more (λ (x : TreeEntry). is_close x.kind) es e ∙ plus_one (count_by (λ (x : TreeEntry). is_close x.kind) es) (is_close e.kind) c) f.handles (shut_some table h item lt at);
-  inside = λ handle i k. inside handle i (eqb_tells h handle) k;
+      (count_more (λ (x : TreeEntry). is_close x.kind) es e ∙ plus_one (count_by (λ (x : TreeEntry). is_close x.kind) es) (is_close e.kind) c) f.handles (shut_some table h k lt at);
+  inside = put_inside table h None count count lt (omega arith) (λ k e. absurd (none-some k e)) f.inside;
   alone = alone_more es e own f.alone;
 } where
-  plus : (n : ℕ) (b : Bool) → b ≡ false → n + cond b 1 0 ≡ n
-  plus n b e = rw e (omega arith)
-
-  plus_one : (n : ℕ) (b : Bool) → b ≡ true → n + cond b 1 0 ≡ n + 1
-  plus_one n b e = rw e refl
-
   closed : {opens opens' closes' : ℕ} (closes some some' : ℕ) → opens' ≡ opens → closes' ≡ closes + 1 → opens ≡ closes + some → some' + 1 ≡ some → opens' ≡ closes' + some'
   closed closes some some' x y z w = omega (arith, x, y, z, w)
 
-  inside : (handle i : ℕ) → ((eqb h handle ≡ true) × (h ≡ handle)) ⊎ ((eqb h handle ≡ false) × (h ≢ handle)) → file_at (set table h None) handle ≡ Some i → i < count
-  inside handle i (inl k) e = absurd (none-some i (sym (at_put table h handle None lt ∙ ap (λ b. cond b None (file_at table handle)) k.0) ∙ e))
-  inside handle i (inr k) e = f.inside handle i (sym (at_put table h handle None lt ∙ ap (λ b. cond b None (file_at table handle)) k.0) ∙ e)
-
 -- and after an open of a file inside
-pub fit_opened : (es : List TreeEntry) (e : TreeEntry) (table : List (Option ℕ)) (h item count count' : ℕ) → Fit es table count → count ≤ count' → item < count' → is_open e.kind ≡ true → is_close e.kind ≡ false → e.by.who.actor ≡ Session 1
-    → h < length table → file_at table h ≡ None → Fit (es ++ e ∷ []) (set table h (Some item)) count'
-fit_opened es e table h item count count' f le inner o c own lt at = record {
-  size = length-set table h (Some item) ∙ f.size;
+fit_opened : (es : List TreeEntry) (e : TreeEntry) (table : List (Option Handle)) (h : ℕ) (k : Handle) (count count' : ℕ) → Fit es table count → count ≤ count' → k.item < count' → is_open e.kind ≡ true → is_close e.kind ≡ false → e.by.who.actor ≡ Session 1
+    → h < length table → file_at table h ≡ None → Fit (es ++ e ∷ []) (set table h (Some k)) count'
+fit_opened es e table h k count count' f le inner o c own lt at = record {
+  size = length-set table h (Some k) ∙ f.size;
   handles = opened _ _ _ (count_more (λ (x : TreeEntry). is_open x.kind) es e ∙ plus_one (count_by (λ (x : TreeEntry). is_open x.kind) es) (is_open e.kind) o)
-      (count_more (λ (x : TreeEntry). is_close x.kind) es e ∙ plus (count_by (λ (x : TreeEntry). is_close x.kind) es) (is_close e.kind) c) f.handles (opened_some table h item lt at);
-  inside = λ handle i k. inside handle i (eqb_tells h handle) k;
+      (count_more (λ (x : TreeEntry). is_close x.kind) es e ∙ plus (count_by (λ (x : TreeEntry). is_close x.kind) es) (is_close e.kind) c) f.handles (opened_some table h k lt at);
+  inside = put_inside table h (Some k) count count' lt le (λ j e. subst (λ (x : Handle). x.item < count') (same j e) inner) f.inside;
   alone = alone_more es e own f.alone;
 } where
-  plus : (n : ℕ) (b : Bool) → b ≡ false → n + cond b 1 0 ≡ n
-  plus n b e = rw e (omega arith)
-
-  plus_one : (n : ℕ) (b : Bool) → b ≡ true → n + cond b 1 0 ≡ n + 1
-  plus_one n b e = rw e refl
-
   opened : {opens opens' closes' : ℕ} (closes some some' : ℕ) → opens' ≡ opens + 1 → closes' ≡ closes → opens ≡ closes + some → some' ≡ some + 1 → opens' ≡ closes' + some'
   opened closes some some' x y z w = omega (arith, x, y, z, w)
 
-  same_item : (i : ℕ) → Some item ≡ Some i → item ≡ i
-  same_item i e = cc
-
-  inside : (handle i : ℕ) → ((eqb h handle ≡ true) × (h ≡ handle)) ⊎ ((eqb h handle ≡ false) × (h ≢ handle)) → file_at (set table h (Some item)) handle ≡ Some i → i < count'
-  inside handle i (inl k) e = omega (arith, inner, same_item i (sym (at_put table h handle (Some item) lt ∙ ap (λ b. cond b (Some item) (file_at table handle)) k.0) ∙ e))
-  inside handle i (inr k) e = omega (arith, le, f.inside handle i (sym (at_put table h handle (Some item) lt ∙ ap (λ b. cond b (Some item) (file_at table handle)) k.0) ∙ e))
+  same : (j : Handle) → Some k ≡ Some j → k ≡ j
+  same j e = cc
 
 -- and after an entry that opens and closes nothing
-pub fit_more : (es : List TreeEntry) (e : TreeEntry) (table : List (Option ℕ)) (count : ℕ) → Fit es table count → is_open e.kind ≡ false → is_close e.kind ≡ false → e.by.who.actor ≡ Session 1 → Fit (es ++ e ∷ []) table count
-fit_more es e table count f o c own = record {
+fit_more : (es : List TreeEntry) (e : TreeEntry) (table : List (Option Handle)) (count : ℕ) → Fit es table count → IsPlain e.kind → e.by.who.actor ≡ Session 1 → Fit (es ++ e ∷ []) table count
+fit_more es e table count f p own = record {
   size = f.size;
-  handles = stays _ (count_more (λ (x : TreeEntry). is_open x.kind) es e ∙ plus (count_by (λ (x : TreeEntry). is_open x.kind) es) (is_open e.kind) o)
-      (count_more (λ (x : TreeEntry). is_close x.kind) es e ∙ plus (count_by (λ (x : TreeEntry). is_close x.kind) es) (is_close e.kind) c) f.handles;
+  handles = stays _ (count_more (λ (x : TreeEntry). is_open x.kind) es e ∙ plus (count_by (λ (x : TreeEntry). is_open x.kind) es) (is_open e.kind) p.no_open)
+      (count_more (λ (x : TreeEntry). is_close x.kind) es e ∙ plus (count_by (λ (x : TreeEntry). is_close x.kind) es) (is_close e.kind) p.no_close) f.handles;
   inside = f.inside;
   alone = alone_more es e own f.alone;
 } where
-  plus : (n : ℕ) (b : Bool) → b ≡ false → n + cond b 1 0 ≡ n
-  plus n b e = rw e (omega arith)
-
   stays : {opens opens' closes closes' : ℕ} (had : ℕ) → opens' ≡ opens → closes' ≡ closes → opens ≡ closes + had → opens' ≡ closes' + had
   stays had x y z = omega (arith, x, y, z)
 
--- no handle has a file that isn't there
-none_open : (table : List (Option ℕ)) (item : ℕ) → ((handle : ℕ) → file_at table handle ≡ Some item → ⊥) → count_by (has_file item) table ≡ 0
-none_open [] item h = refl
-none_open (o ∷ table) item h = let f : Option ℕ → ℕ = λ x. cond (has_file item x) 1 0 in
-    omega (arith, sum_by-append f (o ∷ []) table, zero-add (f o), uncounted o (h zero), none_open table item (λ handle. h (suc handle))) where
-      unequal : (opened : ℕ) → (Some opened ≡ Some item → ⊥) → ◌≡◌ {A = ℕ} (cond (eqb opened item) 1 0) 0
-      unequal opened h = let g : Bool → ℕ = λ b. cond b 1 0 in ap g (ne_eqb opened item (λ e. h (ap Some e)))
+-- a file of which neither the tree nor the table tells anything new
+tied_same : (es es' : List TreeEntry) (table table' : List (Option Handle)) (item : ℕ) (past : List Entry) → count_by (has_file item) table' ≡ count_by (has_file item) table
+    → opened_in es' item ≡ opened_in es item → closed_in es' item ≡ closed_in es item → left_dirty es' item ≡ left_dirty es item → IsTied es table item past → IsTied es' table' item past
+tied_same es es' table table' item past t o c l s = record {
+  handles = s.handles ∙ ap (λ n. count_of is_closed past + n) (sym t);
+  opened = o ∙ s.opened;
+  closed = c ∙ s.closed;
+  rest = λ e. l ∙ s.rest e;
+}
 
-      uncounted : (o : Option ℕ) → (o ≡ Some item → ⊥) → ◌≡◌ {A = ℕ} (cond (has_file item o) 1 0) 0
-      uncounted None h = refl
-      uncounted (Some opened) h = unequal opened h
-
--- a file that was just made and opened
-fresh_file : (table : List (Option ℕ)) (item : ℕ) (a b : Entry) (by : By) → a.by.who ≡ by.who → b.by.who ≡ by.who → a.by.now ≡ b.by.now → a.by.pass ≡ 0 → b.by.pass ≡ 0 → by.who.actor ≡ Session 1
-    → kept_after a.kind false ≡ true → kept_after b.kind true ≡ true → b.at ≡ 0 → is_opened a.kind ≡ false → is_closed a.kind ≡ false → is_opened b.kind ≡ true → is_closed b.kind ≡ false
-    → count_by (has_file item) table ≡ 1 → IsSoundFile table item (b ∷ a ∷ [])
-fresh_file table item a b by wa wb when pa pb own ka kb at oa ca ob cb count = record {
-  kept = ap (kept_after b.kind) ka ∙ kb;
-  still = at;
-  handles = ap (count_of is_opened) made ∙ step_opened ∙ sym (ap (λ l. count_of is_closed l + count_by (has_file item) table) made ∙ ap (λ n. n + count_by (has_file item) table) step_closed ∙ zero-add (count_by (has_file item) table) ∙ count);
-  alone = ap (λ x. cond x (a ∷ cond (in_file_of b 1) (b ∷ []) []) (cond (in_file_of b 1) (b ∷ []) [])) (own_entry a (ap (λ (w : Who). w.actor) wa ∙ own)) ∙ ap (λ x. a ∷ cond x (b ∷ []) []) (own_entry b (ap (λ (w : Who). w.actor) wb ∙ own));
-  timely = ((phases, omega (arith, when)), (tt, tt));
+-- the tree has one entry more that names, opens and closes nothing
+pub sound_plain : (es : List TreeEntry) (e : TreeEntry) (paths : List (List ℕ)) (files : List History) (table : List (Option Handle)) → IsSound es paths files table → IsPlain e.kind → e.by.who.actor ≡ Session 1 → IsSound (es ++ e ∷ []) paths files table
+sound_plain es e paths files table s p own = let fit = fit_more es e table (length files) (same_fit es paths files table s) p own in record {
+  size = s.size;
+  found = λ path. s.found path ∙ sym (item_plain es e path p);
+  count = s.count;
+  numbered = files_more es e ∙ p.files (files_of es) ∙ s.numbered;
+  few = omega (arith, s.few, length-append es (e ∷ []));
+  named = λ item lt. record { count = (s.named item lt).count; each = names (history_in files item).names item (s.named item lt).each };
+  each = s.each;
+  tied = λ item. tied_same es (es ++ e ∷ []) table table item _ refl (opened_plain es e item p) (closed_plain es e item p) (left_plain es e item p) (s.tied item);
+  handles = fit.handles;
+  inside = s.inside;
+  alone = fit.alone;
 } where
-  phases : a.by.who.phase ≤ b.by.who.phase
-  phases = omega (arith, ap (λ (w : Who). w.phase) wa, ap (λ (w : Who). w.phase) wb)
+  names : (ns : List (List ℕ)) (item : ℕ) → AllByRecursion (λ name. item_of es name ≡ Some item) ns → AllByRecursion (λ name. item_of (es ++ e ∷ []) name ≡ Some item) ns
+  names [] item h = h
+  names (n ∷ ns) item h = (item_plain es e n p ∙ h.0, names ns item h.1)
 
-  made : made_by 0 (b ∷ a ∷ []) ≡ b ∷ a ∷ []
-  made = made_step b (a ∷ []) pb ∙ ap (λ l. b ∷ l) (made_step a [] pa)
+-- the handles that are open of a file, by the table
+pub handles_left : (es : List TreeEntry) (table : List (Option Handle)) (item : ℕ) (past : List Entry) → IsTied es table item past → opens_of past ≡ count_by (has_file item) table
+handles_left es table item past t = omega (arith, t.handles)
 
-  step_opened : count_of is_opened (b ∷ a ∷ []) ≡ 1
-  step_opened = count_step is_opened b (a ∷ []) true ob ∙ ap (λ n. n + 1) (count_step is_opened a [] false oa)
+-- a held file is dirty or open
+pub held_is : (es : List TreeEntry) (table : List (Option Handle)) (item : ℕ) (past : List Entry) → IsTied es table item past → is_held es item ≡ (is_dirty past || nat_lt 0 (opens_of past))
+held_is es table item past t = by_opens (opens_of past) refl where
+  opened_by : (closed opened n : ℕ) → opened - closed ≡ n → closed ≤ opened → nat_lt closed opened ≡ nat_lt 0 n
+  opened_by closed opened n e le = grind (arith, e, le)
 
-  step_closed : count_of is_closed (b ∷ a ∷ []) ≡ 0
-  step_closed = count_step is_closed b (a ∷ []) false cb ∙ ap (λ n. n + 0) (count_step is_closed a [] false ca)
+  any : nat_lt (closed_in es item) (opened_in es item) ≡ nat_lt 0 (opens_of past)
+  any = ap (λ n. nat_lt n (opened_in es item)) t.closed ∙ ap (λ n. nat_lt (count_of is_closed past) n) t.opened
+      ∙ opened_by (count_of is_closed past) (count_of is_opened past) (opens_of past) refl (omega (arith, t.handles))
 
--- a file is made, opened and put last
-pub sound_made : (es : List TreeEntry) (e : TreeEntry) (paths : List (List ℕ)) (files : List History) (table : List (Option ℕ)) (h : ℕ) (path : List ℕ) (a b : Entry) (by : By) → IsSound es paths files table
-    → is_open e.kind ≡ true → is_close e.kind ≡ false → e.by.who.actor ≡ Session 1 → made_paths (e ∷ []) ≡ path ∷ []
-    → a.by.who ≡ by.who → b.by.who ≡ by.who → a.by.now ≡ b.by.now → a.by.pass ≡ 0 → b.by.pass ≡ 0 → by.who.actor ≡ Session 1
-    → kept_after a.kind false ≡ true → kept_after b.kind true ≡ true → b.at ≡ 0 → is_opened a.kind ≡ false → is_closed a.kind ≡ false → is_opened b.kind ≡ true → is_closed b.kind ≡ false
-    → h < length table → file_at table h ≡ None
-    → IsSound (es ++ e ∷ []) (paths ++ path ∷ []) (files ++ record { entries = a ∷ b ∷ []; names = path ∷ [] } ∷ []) (set table h (Some (length files)))
-sound_made es e paths files table h path a b by s o c own makes wa wb when pa pb mine ka kb still oa ca ob cb lt at =
-    let h' : History = record { entries = a ∷ b ∷ []; names = path ∷ [] } in
-    let count : length (files ++ h' ∷ []) ≡ length files + 1 = length-append files (h' ∷ []) in
-    let fit = fit_opened es e table h (length files) (length files) (length (files ++ h' ∷ [])) (same_fit es paths files table s) (omega (arith, count)) (omega (arith, count)) o c own lt at in
-    let made : made_paths (es ++ e ∷ []) ≡ made_paths es ++ path ∷ [] = made_append es (e ∷ []) ∙ ap (λ l. made_paths es ++ l) makes in
-    record {
-      size = fit.size;
-      made = ap (λ l. l ++ path ∷ []) s.made ∙ sym made;
-      named = map-append (λ (f : History). f.names) files (h' ∷ []) ∙ ap (λ l. l ++ (path ∷ []) ∷ []) s.named ∙ sym (map-append (λ p. p ∷ []) (made_paths es) (path ∷ [])) ∙ ap (map (λ p. p ∷ [])) (sym made);
-      each = λ i inside. each i (eqb_tells i (length files)) (omega (arith, count, inside));
-      handles = fit.handles;
-      inside = fit.inside;
-      alone = fit.alone;
-    } where
-      below : (i n : ℕ) → i < n + 1 → i ≢ n → i < n
-      below i n lt ne = omega (arith, lt, ne)
+  positive : (m n : ℕ) → m ≡ suc n → nat_lt 0 m ≡ true
+  positive m n e = grind (arith, e)
 
-      each : (i : ℕ) → ((eqb i (length files) ≡ true) × (i ≡ length files)) ⊎ ((eqb i (length files) ≡ false) × (i ≢ length files)) → i < length files + 1
-          → IsSoundFile (set table h (Some (length files))) i (reverse (entries_in (files ++ record { entries = a ∷ b ∷ []; names = path ∷ [] } ∷ []) i))
-      each i (inl k) inside = subst (λ j. IsSoundFile (set table h (Some (length files))) j (reverse (entries_in (files ++ record { entries = a ∷ b ∷ []; names = path ∷ [] } ∷ []) j))) (sym k.1)
-          (subst (λ l. IsSoundFile (set table h (Some (length files))) (length files) (reverse l)) (sym (in_last files (record { entries = a ∷ b ∷ []; names = path ∷ [] })))
-          (fresh_file (set table h (Some (length files))) (length files) a b by wa wb when pa pb mine ka kb still oa ca ob cb
-          (opened_own table h (length files) lt at ∙ ap (λ n. n + 1) (none_open table (length files) (λ handle k. absurd (omega (arith, s.inside handle (length files) k)))))))
-      each i (inr k) inside = subst (λ l. IsSoundFile (set table h (Some (length files))) i (reverse l)) (sym (in_before files (record { entries = a ∷ b ∷ []; names = path ∷ [] }) i k.1))
-          (file_same table (set table h (Some (length files))) i (reverse (entries_in files i)) (opened_other table h (length files) i lt at k.1) (s.each i (below i (length files) inside k.1)))
+  by_opens : (n : ℕ) → opens_of past ≡ n → is_held es item ≡ (is_dirty past || nat_lt 0 (opens_of past))
+  by_opens zero e = ap (λ b. b || left_dirty es item) (any ∙ ap (nat_lt 0) e) ∙ t.rest e ∙ sym (or-false (is_dirty past)) ∙ ap (λ n. is_dirty past || nat_lt 0 n) (sym e)
+  by_opens (suc n) e = let yes : nat_lt 0 (opens_of past) ≡ true = positive (opens_of past) n e in
+      ap (λ b. b || left_dirty es item) (any ∙ yes) ∙ sym (ap (λ b. is_dirty past || b) yes ∙ or-true (is_dirty past))
 
--- nothing is later than a file that was just made
-pub up_made : (files : List History) (a b : Entry) (names : List (List ℕ)) (by : By) → b.by.who ≡ by.who → b.by.now ≡ by.now → IsUpTo by files → IsUpTo by (files ++ record { entries = a ∷ b ∷ []; names = names } ∷ [])
-up_made files a b names by whose when up i = at i (eqb_tells i (length files)) where
-  at : (i : ℕ) → ((eqb i (length files) ≡ true) × (i ≡ length files)) ⊎ ((eqb i (length files) ≡ false) × (i ≢ length files)) → IsNoLater (reverse (entries_in (files ++ record { entries = a ∷ b ∷ []; names = names } ∷ []) i)) by
-  at i (inl k) = subst (λ j. IsNoLater (reverse (entries_in (files ++ record { entries = a ∷ b ∷ []; names = names } ∷ []) j)) by) (sym k.1)
-      (subst (λ l. IsNoLater (reverse l) by) (sym (in_last files (record { entries = a ∷ b ∷ []; names = names }))) (omega (arith, ap (λ (w : Who). w.phase) whose), omega (arith, when)))
-  at i (inr k) = subst (λ l. IsNoLater (reverse l) by) (sym (in_before files (record { entries = a ∷ b ∷ []; names = names }) i k.1)) (up i)
+-- the file of an open handle can be read, written and closed
+pub is_ready : (es : List TreeEntry) (paths : List (List ℕ)) (files : List History) (table : List (Option Handle)) (handle : ℕ) (k : Handle) (pass : ℕ) → IsSound es paths files table → file_at table handle ≡ Some k → pass ≡ 0
+    → (k.item < length files) × (0 < opens_by pass (reverse (entries_in files k.item)))
+is_ready es paths files table handle k pass s h p =
+    let lt = s.inside handle k h in
+    let opens : 0 < opens_of (reverse (entries_in files k.item)) = omega (arith, (s.tied k.item).handles, some_open table handle k h) in
+    (lt, subst (λ n. 0 < opens_by n (reverse (entries_in files k.item))) (sym p) (subst (λ l. 0 < opens_of l) (sym (s.each k.item lt).own.pass) opens))
 
--- a tree makes no more paths than it has entries
-more_made : (kind : TreeKind) (others : List (List ℕ)) → length (made_before kind others) ≤ length others + 1
-more_made (tree.Created path item) others = omega arith
-more_made (tree.Kept path item dirty) others = omega arith
-more_made (tree.Listed dir listing) others = omega arith
-more_made (tree.Opened path item print) others = omega arith
-more_made (tree.Closed item dirty) others = omega arith
-more_made (tree.Stored path print) others = omega arith
-more_made (tree.Gone path) others = omega arith
-more_made (tree.Removed path) others = omega arith
-more_made (tree.Renamed from to) others = omega arith
-more_made (tree.MadeDir path) others = omega arith
-more_made (tree.UnmadeDir path) others = omega arith
-more_made (tree.Polled dirs) others = omega arith
-more_made (tree.Forgot path) others = omega arith
-more_made (tree.DirectRead path print) others = omega arith
-more_made (tree.Direct path) others = omega arith
-more_made (tree.Undirect path) others = omega arith
-more_made (tree.Asked verb path) others = omega arith
-more_made (tree.Refused verb path why) others = omega arith
+-- one of the files that is open goes on by an entry that opens and closes nothing and leaves it kept
+pub sound_grown : (es : List TreeEntry) (paths : List (List ℕ)) (files : List History) (table : List (Option Handle)) (handle : ℕ) (k : Handle) (by : By) (kind : FileKind) → IsSound es paths files table → file_at table handle ≡ Some k
+    → by.who.actor ≡ Session 1 → by.pass ≡ 0 → IsUpTo by files
+    → kept_after kind true ≡ true → is_opened kind ≡ false → is_closed kind ≡ false → names_file kind ≡ false
+    → IsSound es paths (add_to files k.item (in_file by false kind ∷ []) []) table
+sound_grown es paths files table handle k by kind s at own pass up kept o c n = record {
+  size = s.size;
+  found = s.found;
+  count = s.count ∙ sym same_length;
+  numbered = s.numbered ∙ sym same_length;
+  few = omega (arith, same_length, s.few);
+  named = λ i lt. named i (eqb_tells i item) (omega (arith, same_length, lt));
+  each = λ i lt. each i (eqb_tells i item) (omega (arith, same_length, lt));
+  tied = λ i. tied i (eqb_tells i item);
+  handles = s.handles;
+  inside = λ h j e. omega (arith, same_length, s.inside h j e);
+  alone = s.alone;
+} where
+  item : ℕ
+  item = k.item
 
-few_made : (es : List TreeEntry) → length (made_paths es) ≤ length es
-few_made [] = omega arith
-few_made (e ∷ es) = omega (arith, more_made e.kind (made_paths es), few_made es)
+  lt : k.item < length files
+  lt = s.inside handle k at
 
-pub few_files : (es : List TreeEntry) (paths : List (List ℕ)) (files : List History) (table : List (Option ℕ)) → IsSound es paths files table → (length files ≡ length (made_paths es)) × (length files ≤ length es)
-few_files es paths files table s =
-    let e : length files ≡ length (made_paths es) = sym (length-map files (λ (f : History). f.names)) ∙ ap length s.named ∙ length-map (made_paths es) (λ (p : List ℕ). p ∷ []) in
-    (e, omega (arith, e, few_made es))
+  files' : List History
+  files' = add_to files k.item (in_file by false kind ∷ []) []
 
--- the tree has one entry more that makes, opens and closes nothing
-pub sound_told : (es : List TreeEntry) (e : TreeEntry) (paths : List (List ℕ)) (files : List History) (table : List (Option ℕ)) → IsSound es paths files table → is_open e.kind ≡ false → is_close e.kind ≡ false → e.by.who.actor ≡ Session 1
-    → made_paths (e ∷ []) ≡ [] → IsSound (es ++ e ∷ []) paths files table
-sound_told es e paths files table s o c own makes =
-    let fit = fit_more es e table (length files) (same_fit es paths files table s) o c own in
-    let made : made_paths (es ++ e ∷ []) ≡ made_paths es = made_append es (e ∷ []) ∙ ap (λ l. made_paths es ++ l) makes ∙ append-nil (made_paths es) in
-    record {
-      size = s.size;
-      made = s.made ∙ sym made;
-      named = s.named ∙ ap (map (λ p. p ∷ [])) (sym made);
-      each = s.each;
-      handles = fit.handles;
-      inside = s.inside;
-      alone = fit.alone;
-    }
+  g : Goes files files' k.item (in_file by false kind ∷ [])
+  g = goes_on files k.item (in_file by false kind ∷ []) [] lt
 
--- and after the root was listed where it wasn't yet
-pub sound_listed : (by : By) (es lists : List TreeEntry) (paths : List (List ℕ)) (files : List History) (table : List (Option ℕ)) → IsSound es paths files table → by.who.actor ≡ Session 1 → ListsOnce by es lists → IsSound (es ++ lists) paths files table
-sound_listed by es lists paths files table s own (inl h) = subst (λ l. IsSound l paths files table) (sym (ap (λ l. es ++ l) h.1 ∙ append-nil es)) s
-sound_listed by es lists paths files table s own (inr h) = subst (λ l. IsSound (es ++ l) paths files table) (sym h.1.1) (sound_told es (in_tree by (tree.Listed [] h.1.0)) paths files table s refl refl own refl)
+  same_length : length files' ≡ length files
+  same_length = length-set files k.item (record { entries = entries_in files k.item ++ in_file by false kind ∷ []; names = names_in files k.item ++ [] })
 
--- a listing makes no file
-pub listed_made : (by : By) (es lists : List TreeEntry) → ListsOnce by es lists → made_paths lists ≡ []
-listed_made by es lists (inl h) = ap made_paths h.1
-listed_made by es lists (inr h) = ap made_paths h.1.1
+  past : List Entry
+  past = reverse (entries_in files k.item)
 
-pub listed_item : (by : By) (es lists : List TreeEntry) (path : List ℕ) → ListsOnce by es lists → item_of (es ++ lists) path ≡ item_of es path
-listed_item by es lists path h = ap (position (same_text path)) (made_append es lists ∙ ap (λ l. made_paths es ++ l) (listed_made by es lists h) ∙ append-nil (made_paths es))
+  each : (i : ℕ) → ((eqb i k.item ≡ true) × (i ≡ k.item)) ⊎ ((eqb i k.item ≡ false) × (i ≢ k.item)) → i < length files → IsSoundFile (reverse (entries_in files' i))
+  each i (inl h) l = subst (λ j. IsSoundFile (reverse (entries_in files' j))) (sym h.1) (subst IsSoundFile (sym (grown_past g)) (record {
+    kept = ap (kept_after kind) (s.each k.item lt).kept ∙ kept;
+    own = own_step by false kind past own pass (up k.item) (s.each k.item lt).own;
+  }))
+  each i (inr h) l = subst (λ x. IsSoundFile (reverse x)) (sym (g.others i h.1)) (s.each i l)
 
-pub listed_count : (by : By) (es lists : List TreeEntry) → ListsOnce by es lists → made_paths (es ++ lists) ≡ made_paths es
-listed_count by es lists h = made_append es lists ∙ ap (λ l. made_paths es ++ l) (listed_made by es lists h) ∙ append-nil (made_paths es)
+  steps : (such : FileKind → Bool) (b : Bool) → such kind ≡ b → b ≡ false → count_of such (in_file by false kind ∷ past) ≡ count_of such past
+  steps such true e h = absurd (cc)
+  steps such false e h = rw e refl
 
-pub listed_own : (by : By) (es lists : List TreeEntry) → by.who.actor ≡ Session 1 → ListsOnce by es lists → entries_of in_tree_of 1 lists ≡ lists
-listed_own by es lists own (inl h) = ap (entries_of in_tree_of 1) h.1 ∙ sym h.1
-listed_own by es lists own (inr h) = ap (entries_of in_tree_of 1) h.1.1 ∙ ap (λ b. cond b (in_tree by (tree.Listed [] h.1.0) ∷ []) []) (own_in_tree (in_tree by (tree.Listed [] h.1.0)) own) ∙ sym h.1.1
+  tied : (i : ℕ) → ((eqb i k.item ≡ true) × (i ≡ k.item)) ⊎ ((eqb i k.item ≡ false) × (i ≢ k.item)) → IsTied es table i (reverse (entries_in files' i))
+  tied i (inl h) = let t = s.tied k.item in let op = steps is_opened (is_opened kind) refl o in let cl = steps is_closed (is_closed kind) refl c in
+      subst (λ j. IsTied es table j (reverse (entries_in files' j))) (sym h.1) (subst (λ l. IsTied es table k.item l) (sym (grown_past g)) (record {
+        handles = op ∙ t.handles ∙ ap (λ n. n + count_by (has_file k.item) table) (sym cl);
+        opened = t.opened ∙ sym op;
+        closed = t.closed ∙ sym cl;
+        rest = λ e. absurd (omega (arith, e, op, cl, t.handles, some_open table handle k at));
+      }))
+  tied i (inr h) = subst (λ x. IsTied es table i (reverse x)) (sym (g.others i h.1)) (s.tied i)
+
+  named : (i : ℕ) → ((eqb i k.item ≡ true) × (i ≡ k.item)) ⊎ ((eqb i k.item ≡ false) × (i ≢ k.item)) → i < length files → IsNamed es i (history_in files' i)
+  named i (inl h) l = let new : History = record { entries = entries_in files k.item ++ in_file by false kind ∷ []; names = names_in files k.item ++ [] } in
+      subst (λ j. IsNamed es j (history_in files' j)) (sym h.1) (subst (IsNamed es k.item) (sym (get_or-set_same files k.item new (record { entries = []; names = [] }) lt)) (record {
+        count = ap length (append-nil (names_in files k.item)) ∙ (s.named k.item lt).count ∙ sym (ap (count_of names_file) (reverse-append (entries_in files k.item) (in_file by false kind ∷ [])) ∙ steps names_file (names_file kind) refl n);
+        each = subst (AllByRecursion (λ name. item_of es name ≡ Some k.item)) (sym (append-nil (names_in files k.item))) (s.named k.item lt).each;
+      }))
+  named i (inr h) l = subst (IsNamed es i) (sym (get_or-set_other files k.item i (record { entries = entries_in files k.item ++ in_file by false kind ∷ []; names = names_in files k.item ++ [] }) (record { entries = []; names = [] }) h.1)) (s.named i l)
+
+-- a handle of a file is closed
+pub sound_shut : (es : List TreeEntry) (paths : List (List ℕ)) (files : List History) (table : List (Option Handle)) (h : ℕ) (k : Handle) (by : By) (dirty : Bool) → IsSound es paths files table → h < length table → file_at table h ≡ Some k
+    → by.who.actor ≡ Session 1 → by.pass ≡ 0 → IsUpTo by files → dirty ≡ is_dirty (reverse (entries_in files k.item))
+    → IsSound (es ++ in_tree by (tree.Closed (record { 0 = k.item }) dirty) ∷ []) paths (add_to files k.item (in_file by true file.Closed ∷ []) []) (set table h None)
+sound_shut es paths files table h k by dirty s small at own pass up was = record {
+  size = fit.size;
+  found = λ path. s.found path ∙ sym (item_more es e path);
+  count = s.count ∙ sym same_length;
+  numbered = files_more es e ∙ s.numbered ∙ sym same_length;
+  few = omega (arith, same_length, s.few, length-append es (e ∷ []));
+  named = λ i l. named i (eqb_tells i k.item) (omega (arith, same_length, l));
+  each = λ i l. each i (eqb_tells i k.item) (omega (arith, same_length, l));
+  tied = λ i. tied i (eqb_tells i k.item);
+  handles = fit.handles;
+  inside = λ handle j x. omega (arith, same_length, fit.inside handle j x);
+  alone = fit.alone;
+} where
+  e : TreeEntry
+  e = in_tree by (tree.Closed (record { 0 = k.item }) dirty)
+
+  lt : k.item < length files
+  lt = s.inside h k at
+
+  files' : List History
+  files' = add_to files k.item (in_file by true file.Closed ∷ []) []
+
+  new : History
+  new = record { entries = entries_in files k.item ++ in_file by true file.Closed ∷ []; names = names_in files k.item ++ [] }
+
+  g : Goes files files' k.item (in_file by true file.Closed ∷ [])
+  g = goes_on files k.item (in_file by true file.Closed ∷ []) [] lt
+
+  same_length : length files' ≡ length files
+  same_length = length-set files k.item new
+
+  past : List Entry
+  past = reverse (entries_in files k.item)
+
+  fit : Fit (es ++ e ∷ []) (set table h None) (length files)
+  fit = fit_shut es e table h k (length files) (same_fit es paths files table s) refl refl own small at
+
+  each : (i : ℕ) → ((eqb i k.item ≡ true) × (i ≡ k.item)) ⊎ ((eqb i k.item ≡ false) × (i ≢ k.item)) → i < length files → IsSoundFile (reverse (entries_in files' i))
+  each i (inl q) l = subst (λ j. IsSoundFile (reverse (entries_in files' j))) (sym q.1) (subst IsSoundFile (sym (grown_past g)) (record {
+    kept = (s.each k.item lt).kept;
+    own = own_step by true file.Closed past own pass (up k.item) (s.each k.item lt).own;
+  }))
+  each i (inr q) l = subst (λ x. IsSoundFile (reverse x)) (sym (g.others i q.1)) (s.each i l)
+
+  closes_one : (n m : ℕ) → n ≡ m → ◌≡◌ {A = ℕ} (cond (eqb n m) 1 0) 1
+  closes_one n m q = let f : Bool → ℕ = λ b. cond b 1 0 in ap f (eq-eqb n m q)
+
+  closes_none : (n m : ℕ) → n ≢ m → ◌≡◌ {A = ℕ} (cond (eqb n m) 1 0) 0
+  closes_none n m q = let f : Bool → ℕ = λ b. cond b 1 0 in ap f (ne_eqb n m q)
+
+  one_less : (opens closes had has : ℕ) → opens ≡ closes + had → has + 1 ≡ had → opens ≡ (closes + 1) + has
+  one_less opens closes had has a b = omega (arith, a, b)
+
+  left_own : left_dirty (es ++ e ∷ []) k.item ≡ dirty
+  left_own = left_more es e k.item ∙ ap (λ b. cond b dirty (left_dirty es k.item)) (eq-eqb k.item k.item refl)
+
+  tied : (i : ℕ) → ((eqb i k.item ≡ true) × (i ≡ k.item)) ⊎ ((eqb i k.item ≡ false) × (i ≢ k.item)) → IsTied (es ++ e ∷ []) (set table h None) i (reverse (entries_in files' i))
+  tied i (inl q) = let t = s.tied k.item in subst (λ j. IsTied (es ++ e ∷ []) (set table h None) j (reverse (entries_in files' j))) (sym q.1) (subst (IsTied (es ++ e ∷ []) (set table h None) k.item) (sym (grown_past g)) (record {
+    handles = one_less _ _ _ _ t.handles (shut_own table h k small at);
+    opened = opened_more es e k.item ∙ add-zero (opened_in es k.item) ∙ t.opened;
+    closed = closed_more es e k.item ∙ ap (λ n. closed_in es k.item + n) (closes_one k.item k.item refl) ∙ ap (λ n. n + 1) t.closed;
+    rest = λ none. left_own ∙ was;
+  }))
+  tied i (inr q) = subst (λ x. IsTied (es ++ e ∷ []) (set table h None) i (reverse x)) (sym (g.others i q.1)) (tied_same es (es ++ e ∷ []) table (set table h None) i _ (shut_other table h k i small at q.1)
+      (opened_more es e i ∙ add-zero (opened_in es i)) (closed_more es e i ∙ ap (λ n. closed_in es i + n) (closes_none k.item i (λ x. q.1 (sym x))) ∙ add-zero (closed_in es i))
+      (left_more es e i ∙ ap (λ b. cond b dirty (left_dirty es i)) (ne_eqb k.item i (λ x. q.1 (sym x)))) (s.tied i))
+
+  names : (ns : List (List ℕ)) (i : ℕ) → AllByRecursion (λ name. item_of es name ≡ Some i) ns → AllByRecursion (λ name. item_of (es ++ e ∷ []) name ≡ Some i) ns
+  names [] i x = x
+  names (n ∷ ns) i x = (item_more es e n ∙ x.0, names ns i x.1)
+
+  named : (i : ℕ) → ((eqb i k.item ≡ true) × (i ≡ k.item)) ⊎ ((eqb i k.item ≡ false) × (i ≢ k.item)) → i < length files → IsNamed (es ++ e ∷ []) i (history_in files' i)
+  named i (inl q) l = subst (λ j. IsNamed (es ++ e ∷ []) j (history_in files' j)) (sym q.1) (subst (IsNamed (es ++ e ∷ []) k.item) (sym (get_or-set_same files k.item new (record { entries = []; names = [] }) lt)) (record {
+    count = ap length (append-nil (names_in files k.item)) ∙ (s.named k.item lt).count ∙ sym (ap (count_of names_file) (reverse-append (entries_in files k.item) (in_file by true file.Closed ∷ [])));
+    each = subst (AllByRecursion (λ name. item_of (es ++ e ∷ []) name ≡ Some k.item)) (sym (append-nil (names_in files k.item))) (names (names_in files k.item) k.item (s.named k.item lt).each);
+  }))
+  named i (inr q) l = subst (IsNamed (es ++ e ∷ []) i) (sym (get_or-set_other files k.item i new (record { entries = []; names = [] }) q.1)) (record { count = (s.named i l).count; each = names (names_in files i) i (s.named i l).each })
+
+-- what an open's entry tells of its file and of the others
+kind_opens : (created : Bool) (path : List ℕ) (item : ℕ) (print : Option Fingerprint) (i : ℕ) → opens_item i (opened_kind created path item print) ≡ eqb item i
+kind_opens true path item print i = refl
+kind_opens false path item print i = refl
+
+kind_closes : (created : Bool) (path : List ℕ) (item : ℕ) (print : Option Fingerprint) (i : ℕ) → closes_item i (opened_kind created path item print) ≡ false
+kind_closes true path item print i = refl
+kind_closes false path item print i = refl
+
+kind_left : (created : Bool) (path : List ℕ) (item : ℕ) (print : Option Fingerprint) (i : ℕ) (old : Bool) → left_after (opened_kind created path item print) i old ≡ old
+kind_left true path item print i old = refl
+kind_left false path item print i old = refl
+
+kind_open : (created : Bool) (path : List ℕ) (item : ℕ) (print : Option Fingerprint) → is_open (opened_kind created path item print) ≡ true
+kind_open true path item print = refl
+kind_open false path item print = refl
+
+kind_close : (created : Bool) (path : List ℕ) (item : ℕ) (print : Option Fingerprint) → is_close (opened_kind created path item print) ≡ false
+kind_close true path item print = refl
+kind_close false path item print = refl
+
+pub kind_item : (created : Bool) (path : List ℕ) (item : ℕ) (print : Option Fingerprint) (q : List ℕ) (old : Option ℕ) → item_after (opened_kind created path item print) q old ≡ cond (same_text path q) (Some item) old
+kind_item true path item print q old = refl
+kind_item false path item print q old = refl
+
+pub kind_files : (created : Bool) (path : List ℕ) (item : ℕ) (print : Option Fingerprint) (old : ℕ) → files_after (opened_kind created path item print) old ≡ max old (item + 1)
+kind_files true path item print old = refl
+kind_files false path item print old = refl
+
+-- a file was opened
+pub sound_opened : (es : List TreeEntry) (paths paths' : List (List ℕ)) (files files' : List History) (table : List (Option Handle)) (h : ℕ) (k : Handle) (by : By) (created : Bool) (path : List ℕ) (print : Option Fingerprint) (kinds : List FileKind) → IsSound es paths files table → h < length table → file_at table h ≡ None
+    → by.who.actor ≡ Session 1 → by.pass ≡ 0 → IsUpTo by files → Goes files files' k.item (map (in_file by true) kinds)
+    → is_kept (reverse (map (in_file by true) kinds) ++ reverse (entries_in files k.item)) ≡ true
+    → count_of is_opened (reverse (map (in_file by true) kinds) ++ reverse (entries_in files k.item)) ≡ count_of is_opened (reverse (entries_in files k.item)) + 1
+    → count_of is_closed (reverse (map (in_file by true) kinds) ++ reverse (entries_in files k.item)) ≡ count_of is_closed (reverse (entries_in files k.item))
+    → IsOwnPast (reverse (entries_in files k.item))
+    → length files ≤ length files' → k.item < length files' → ((i : ℕ) → i < length files' → i ≢ k.item → i < length files)
+    → length files' ≤ length (es ++ in_tree by (opened_kind created path k.item print) ∷ []) → length paths' ≡ length files'
+    → ((q : List ℕ) → position (same_text q) paths' ≡ item_of (es ++ in_tree by (opened_kind created path k.item print) ∷ []) q)
+    → files_of (es ++ in_tree by (opened_kind created path k.item print) ∷ []) ≡ length files'
+    → ((i : ℕ) → i < length files' → IsNamed (es ++ in_tree by (opened_kind created path k.item print) ∷ []) i (history_in files' i))
+    → IsSound (es ++ in_tree by (opened_kind created path k.item print) ∷ []) paths' files' (set table h (Some k))
+sound_opened es paths paths' files files' table h k by created path print kinds s small at own pass up g kept opens closes mine le inner below few count found numbered named = record {
+  size = fit.size;
+  found = found;
+  count = count;
+  numbered = numbered;
+  few = few;
+  named = named;
+  each = λ i l. each i (eqb_tells i k.item) l;
+  tied = λ i. tied i (eqb_tells i k.item);
+  handles = fit.handles;
+  inside = fit.inside;
+  alone = fit.alone;
+} where
+  e : TreeEntry
+  e = in_tree by (opened_kind created path k.item print)
+
+  past : List Entry
+  past = reverse (entries_in files k.item)
+
+  more : List Entry
+  more = map (in_file by true) kinds
+
+  fit : Fit (es ++ e ∷ []) (set table h (Some k)) (length files')
+  fit = fit_opened es e table h k (length files) (length files') (same_fit es paths files table s) le inner (kind_open created path k.item print) (kind_close created path k.item print) own small at
+
+  each : (i : ℕ) → ((eqb i k.item ≡ true) × (i ≡ k.item)) ⊎ ((eqb i k.item ≡ false) × (i ≢ k.item)) → i < length files' → IsSoundFile (reverse (entries_in files' i))
+  each i (inl q) l = subst (λ j. IsSoundFile (reverse (entries_in files' j))) (sym q.1) (subst IsSoundFile (sym (grown_past g)) (record {
+    kept = kept;
+    own = own_all by true kinds past own pass (up k.item) mine;
+  }))
+  each i (inr q) l = subst (λ x. IsSoundFile (reverse x)) (sym (g.others i q.1)) (s.each i (below i l q.1))
+
+  opens_one : (b : Bool) → b ≡ true → ◌≡◌ {A = ℕ} (cond b 1 0) 1
+  opens_one b q = let f : Bool → ℕ = λ b. cond b 1 0 in ap f q
+
+  opens_none : (b : Bool) → b ≡ false → ◌≡◌ {A = ℕ} (cond b 1 0) 0
+  opens_none b q = let f : Bool → ℕ = λ b. cond b 1 0 in ap f q
+
+  closes_none : (i : ℕ) → closed_in (es ++ e ∷ []) i ≡ closed_in es i
+  closes_none i = closed_more es e i ∙ ap (λ n. closed_in es i + n) (opens_none (closes_item i e.kind) (kind_closes created path k.item print i)) ∙ add-zero (closed_in es i)
+
+  one_more : {opens' closes' : ℕ} (opens closes had has : ℕ) → opens ≡ closes + had → opens' ≡ opens + 1 → closes' ≡ closes → has ≡ had + 1 → opens' ≡ closes' + has
+  one_more opens closes had has a b c d = omega (arith, a, b, c, d)
+
+  open_one : {A : Type 0} (opens closes opens' closes' had : ℕ) → opens' - closes' ≡ 0 → opens ≡ closes + had → opens' ≡ opens + 1 → closes' ≡ closes → A
+  open_one opens closes opens' closes' had z a b c = absurd (omega (arith, z, a, b, c))
+
+  left_same : (i : ℕ) → left_dirty (es ++ e ∷ []) i ≡ left_dirty es i
+  left_same i = left_more es e i ∙ kind_left created path k.item print i (left_dirty es i)
+
+  tied : (i : ℕ) → ((eqb i k.item ≡ true) × (i ≡ k.item)) ⊎ ((eqb i k.item ≡ false) × (i ≢ k.item)) → IsTied (es ++ e ∷ []) (set table h (Some k)) i (reverse (entries_in files' i))
+  tied i (inl q) = let t = s.tied k.item in subst (λ j. IsTied (es ++ e ∷ []) (set table h (Some k)) j (reverse (entries_in files' j))) (sym q.1) (subst (IsTied (es ++ e ∷ []) (set table h (Some k)) k.item) (sym (grown_past g)) (record {
+    handles = one_more _ _ _ _ t.handles opens closes (opened_own table h k small at);
+    opened = opened_more es e k.item ∙ ap (λ n. opened_in es k.item + n) (opens_one (opens_item k.item e.kind) (kind_opens created path k.item print k.item ∙ eq-eqb k.item k.item refl)) ∙ ap (λ n. n + 1) t.opened ∙ sym opens;
+    closed = closes_none k.item ∙ t.closed ∙ sym closes;
+    rest = λ none. absurd (open_one _ _ _ _ _ none t.handles opens closes);
+  }))
+  tied i (inr q) = subst (λ x. IsTied (es ++ e ∷ []) (set table h (Some k)) i (reverse x)) (sym (g.others i q.1)) (tied_same es (es ++ e ∷ []) table (set table h (Some k)) i _ (opened_other table h k i small at q.1)
+      (opened_more es e i ∙ ap (λ n. opened_in es i + n) (opens_none (opens_item i e.kind) (kind_opens created path k.item print i ∙ ne_eqb k.item i (λ x. q.1 (sym x)))) ∙ add-zero (opened_in es i))
+      (closes_none i) (left_same i) (s.tied i))

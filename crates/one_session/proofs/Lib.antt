@@ -1,9 +1,16 @@
-mod Going
-mod Serving
-mod Listings
-mod Bytes
-mod PathLists
-mod Shelves
-mod Keeping
-mod Doing
-mod Served
+pub mod Deciding
+pub mod Doing
+pub mod Given
+pub mod Going
+pub mod Held
+pub mod Keeping
+pub mod Listings
+pub mod Meeting
+pub mod PathLists
+pub mod Refusing
+pub mod Served
+pub mod Serving
+pub mod Shelves
+pub mod Starts
+pub mod Tables
+pub mod Trees

@@ -2,24 +2,53 @@
 use Rattle.std.proofs.Common.{◌≡◌, ◌≤◌, ℕ, ◌++◌, ◌∙◌, ap, sym, refl, subst, inl, inr, arith, Bool, Option, None, Some, List, [], ◌∷◌, length, take, reverse, map, length-append, append-nil}
 use Rattle.std.specs.Prelude.{IsSomeAnd}
 use Rattle.std.proofs.lemmas.List.{take-append-le, map-append, reverse-append}
+use Rattle.vfs_names.specs.declared.calls.How.{How}
+use Rattle.vfs_names.specs.declared.fingerprint.Fingerprint.{Fingerprint}
 use Rattle.vfs_names.specs.declared.who.Actor.TheVariants.{Session}
 use Rattle.vfs_names.specs.declared.who.By.{By}
 use Rattle.vfs_names.specs.declared.who.ItemId.{ItemId}
 use Rattle.vfs_outside.specs.declared.tree.TreeKind.TheVariants.{Closed}
 use Rattle.vfs_outside.specs.declared.tree.TreeEntry.{TreeEntry}
+use Rattle.vfs_outside.specs.declared.tree.TreeKind.{TreeKind}
 use Rattle.item_core.specs.declared.entry.Entry.{Entry}
-use Rattle.item_core.specs.History.{is_dirty}
+use Rattle.item_core.specs.Content.{Known}
+use Rattle.item_core.specs.History.{held_by, is_dirty}
+use Rattle.memory_item.specs.Known.{Holds}
 use Rattle.session_script.specs.declared.call.Call.{Call}
 use Rattle.session_script.specs.declared.call.Call.TheVariants as call
 use Rattle.session_script.specs.declared.call.CallLine.{CallLine}
 use Rattle.session_text.specs.declared.reply.Record.{Record}
-use Rattle.one_session.specs.Calls.{IsFull, Answers, AnswersOpen, AnswersRead, AnswersWrite, AnswersClose, in_tree, TreeDoes, FileDoes, WasDirty}
+use Rattle.one_session.specs.Calls.{AfterLook, IsFull, Answers, AnswersOpen, AnswersRead, AnswersWrite, AnswersClose, in_tree, OpenAdds, OpensPath, ReadsLatest, TreeDoes, FileDoes, WasDirty, WasHeld}
 use Rattle.one_session.specs.Did.{Did, Grows}
 use Rattle.one_session.specs.Matching.{entries_of}
 use Rattle.one_session.specs.Served.{place_in, AreFull, end_after, file_then, reached, tree_then, Served, Fits, TreeMatches, FileMatches, in_tree_of, in_file_of, tree_place, file_place, open_at, open_after}
-use Rattle.one_session.specs.State.{State, History, entries_in, file_at}
+use Rattle.one_session.specs.State.{State, History, entries_in, file_at, item_at}
 use Rattle.one_session.specs.Tree.{item_of}
+use Rattle.one_session.specs.declared.handle.Handle.{Handle}
 use Rattle.one_session.proofs.Going.{take_whole, stays, more_none, more_some}
+
+-- what a file held before a place stays when files go on
+held_stays : (files files' : List History) (item k : ℕ) (print : Option Fingerprint) → ((i : ℕ) → (more : List Entry) × (entries_in files' i ≡ entries_in files i ++ more)) → WasHeld files item k print → WasHeld files' item k print
+held_stays files files' item k print on w =
+    let more = (on item).0 in
+    let e = (on item).1 in
+    record {
+      inside = grind (arith, ap length e, length-append (entries_in files item) more, w.inside);
+      so = w.so ∙ ap (λ l. held_by (reverse l)) (sym (take-append-le k (entries_in files item) more (omega (arith, w.inside))) ∙ ap (take k) (sym e));
+    }
+
+-- what an open that is done adds stays so
+held_in : (files files' : List History) (by : By) (path : List ℕ) (how : How) (f : Option (ItemId × ℕ)) (before added : List TreeEntry) → ((i : ℕ) → (more : List Entry) × (entries_in files' i ≡ entries_in files i ++ more))
+    → IsSomeAnd f (λ (f : ItemId × ℕ). (own : TreeKind) × (print : Option Fingerprint) × WasHeld files f.0.0 f.1 print × AfterLook by before added (in_tree by own ∷ []) (OpensPath how path f.0.0 print own))
+    → IsSomeAnd f (λ (f : ItemId × ℕ). (own : TreeKind) × (print : Option Fingerprint) × WasHeld files' f.0.0 f.1 print × AfterLook by before added (in_tree by own ∷ []) (OpensPath how path f.0.0 print own))
+held_in files files' by path how None before added on h = h
+held_in files files' by path how (Some f) before added on h = (h.0, h.1, held_stays files files' f.0.0 f.1 h.1 on h.2, h.3)
+
+-- what an open adds stays so
+open_stays : (files files' : List History) (by : By) (path : List ℕ) (how : How) (done : Record) (before added : List TreeEntry) → ((i : ℕ) → (more : List Entry) × (entries_in files' i ≡ entries_in files i ++ more))
+    → OpenAdds by files path how done before added → OpenAdds by files' path how done before added
+open_stays files files' by path how done before added on (inl h) = inl (h.0, held_in files files' by path how done.file before added on h.1)
+open_stays files files' by path how done before added on (inr h) = inr h
 
 -- dirt before a place stays when files go on
 dirty_stays : (files files' : List History) (item k : ℕ) (dirty : Bool) → ((i : ℕ) → (more : List Entry) × (entries_in files' i ≡ entries_in files i ++ more)) → WasDirty files item k dirty → WasDirty files' item k dirty
@@ -39,7 +68,7 @@ dirty_in files files' added by (Some f) on h = (h.0, h.1, dirty_stays files file
 
 tree_stays : (by : By) (files files' : List History) (done : Record) (c : Call) (before added : List TreeEntry) → ((i : ℕ) → (more : List Entry) × (entries_in files' i ≡ entries_in files i ++ more))
     → TreeDoes by files c done before added → TreeDoes by files' c done before added
-tree_stays by files files' done (call.Open h path how) before added on d = d
+tree_stays by files files' done (call.Open h path how) before added on d = open_stays files files' by path how done before added on d
 tree_stays by files files' done (call.Read h pos len) before added on d = d
 tree_stays by files files' done (call.Write h pos payload) before added on d = d
 tree_stays by files files' done (call.Size h size) before added on d = d
@@ -57,7 +86,7 @@ grown belongs session does place old new (inl h) = ([], h.0 ∙ sym (append-nil 
 grown belongs session does place old new (inr h) = (h.0 ++ h.1 ∷ [], h.2)
 
 -- answers go by what each handle has open
-answers_along : (a b : ℕ → Option ℕ) (c : Call) (done : Record) → ((h : ℕ) → a h ≡ b h) → Answers a c done → Answers b c done
+answers_along : (a b : ℕ → Option Handle) (c : Call) (done : Record) → ((h : ℕ) → a h ≡ b h) → Answers a c done → Answers b c done
 answers_along a b (call.Open h path how) done e x = subst (λ o. AnswersOpen o done) (e h) x
 answers_along a b (call.Read h pos len) done e x = subst (λ o. AnswersRead o len done) (e h) x
 answers_along a b (call.Write h pos payload) done e x = subst (λ o. AnswersWrite o pos payload done) (e h) x
@@ -80,11 +109,11 @@ ended belongs session does place before old new (inl h) e = ap (λ p. end_after 
 ended belongs session does place before old new (inr h) e = ap (λ p. end_after p before) h.3 ∙ grind (arith, ap length h.2, length-append old (h.0 ++ h.1 ∷ []), length-append h.0 (h.1 ∷ []))
 
 -- too few places, where the histories and handles are spelled otherwise
-full_along : (l l' : ℕ) (a b : List TreeEntry) (f g : ℕ → List Entry) (o p : ℕ → Option ℕ) (c : Call) → l ≡ l' → a ≡ b → ((i : ℕ) → f i ≡ g i) → ((h : ℕ) → o h ≡ p h) → IsFull l' b g p c → IsFull l a f o c
+full_along : (l l' : ℕ) (a b : List TreeEntry) (f g : ℕ → List Entry) (o p : ℕ → Option Handle) (c : Call) → l ≡ l' → a ≡ b → ((i : ℕ) → f i ≡ g i) → ((h : ℕ) → o h ≡ p h) → IsFull l' b g p c → IsFull l a f o c
 full_along l l' a b f g o p (call.Open h path how) m e k q (inl x) = inl (rw (m, e) x)
 full_along l l' a b f g o p (call.Open h path how) m e k q (inr x) = inr (x.0, ap (λ t. item_of t path) e ∙ x.1, rw (m, k x.0) x.2)
-full_along l l' a b f g o p (call.Read h pos len) m e k q x = (x.0, q h ∙ x.1, rw (m, k x.0) x.2)
-full_along l l' a b f g o p (call.Write h pos payload) m e k q x = (x.0, q h ∙ x.1, rw (m, k x.0) x.2)
+full_along l l' a b f g o p (call.Read h pos len) m e k q x = (x.0, ap item_at (q h) ∙ x.1, rw (m, k x.0) x.2)
+full_along l l' a b f g o p (call.Write h pos payload) m e k q x = (x.0, ap item_at (q h) ∙ x.1, rw (m, k x.0) x.2)
 full_along l l' a b f g o p (call.Size h size) m e k q x = x
 full_along l l' a b f g o p (call.Close h) m e k q x = x
 full_along l l' a b f g o p (call.Stat path) m e k q x = x
@@ -113,9 +142,32 @@ full_stays (d ∷ served) l' l tree tree' files files' e more on go in_tree in_f
       full_stays served l' l tree tree' files files' e more on go ends ends_in a.1,
     )
 
-module _ (session : ℕ) (by : By) (line : CallLine) (done : Record) (s t : State) (own : by.who.actor ≡ Session session) (numbered : done.line ≡ line.line) (did : Did session by line.call done s t) where
+-- what a call does to a file is so by fewer contents
+latest_stays : (holds holds' : Known → Type 0) → ((known : Known) → holds' known → holds known) → (before : List Entry) (pos len : ℕ) (found : List ℕ) → ReadsLatest holds before pos len found → ReadsLatest holds' before pos len found
+latest_stays holds holds' fewer before pos len found r = record { count = r.count; latest = λ known h. r.latest known (fewer known h); written = r.written }
+
+file_stays : (holds holds' : Known → Type 0) → ((known : Known) → holds' known → holds known) → (by : By) (c : Call) (done : Record) (before added : List Entry) → FileDoes holds by c done before added → FileDoes holds' by c done before added
+file_stays holds holds' fewer by (call.Open h path how) done before added d = d
+file_stays holds holds' fewer by (call.Read h pos len) done before added (inl d) = inl ((d.0.0, d.0.1, latest_stays holds holds' fewer before pos len d.0.0 d.0.2), d.1)
+file_stays holds holds' fewer by (call.Read h pos len) done before added (inr d) = inr d
+file_stays holds holds' fewer by (call.Write h pos payload) done before added d = d
+file_stays holds holds' fewer by (call.Size h size) done before added d = d
+file_stays holds holds' fewer by (call.Close h) done before added d = d
+file_stays holds holds' fewer by (call.Stat path) done before added d = d
+file_stays holds holds' fewer by (call.List path) done before added d = d
+file_stays holds holds' fewer by (call.MakeDir path) done before added d = d
+file_stays holds holds' fewer by (call.RemoveDir path) done before added d = d
+file_stays holds holds' fewer by (call.Unlink path) done before added d = d
+file_stays holds holds' fewer by (call.Rename from to) done before added d = d
+
+-- what holds more holds a part of it
+pub holds_part : (tells : Type 0) (more pairs : List (Fingerprint × List ℕ)) (known : Known) → Holds tells (more ++ pairs) known → Holds tells pairs known
+holds_part tells [] pairs known h = h
+holds_part tells (p ∷ more) pairs known h = holds_part tells more pairs known h.1
+
+module _ (session : ℕ) (holds holds' : Known → Type 0) (fewer : (known : Known) → holds' known → holds known) (by : By) (line : CallLine) (done : Record) (s t : State) (own : by.who.actor ≡ Session session) (numbered : done.line ≡ line.line) (did : Did session holds' by line.call done s t) where
   files_on : (i : ℕ) → (more : List Entry) × (entries_in t.files i ≡ entries_in s.files i ++ more)
-  files_on i = grown in_file_of session (FileDoes by line.call done) _ _ _ (did.in_file i)
+  files_on i = grown in_file_of session (FileDoes holds' by line.call done) _ _ _ (did.in_file i)
 
   tree_on : (older : List Served) (more mine : List TreeEntry) → TreeMatches session s.files s.tree older mine → TreeMatches session t.files (s.tree ++ more) older mine
   tree_on older more mine m = stays in_tree_of tree_place (λ older d before added. TreeDoes d.by s.files d.line.call d.done before added) (λ older d before added. TreeDoes d.by t.files d.line.call d.done before added)
@@ -131,20 +183,24 @@ module _ (session : ℕ) (by : By) (line : CallLine) (done : Record) (s t : Stat
       (more_some in_tree_of tree_place (λ older d before added. TreeDoes d.by t.files d.line.call d.done before added) session s.tree h.0 h.1 older (record { by = by; line = line; done = done }) h.3 h.4 h.5 h.6
       (tree_on older (h.0 ++ h.1 ∷ []) (entries_of in_tree_of session s.tree) m))
 
-  file_by : (item : ℕ) (older : List Served) (old new : List Entry) → Grows in_file_of session (FileDoes by line.call done) (place_in item done.file) old new
-      → FileMatches item session old older (entries_of in_file_of session old)
-      → FileMatches item session new (record { by = by; line = line; done = done } ∷ older) (entries_of in_file_of session new)
-  file_by item older old new (inl h) m = subst (λ l. FileMatches item session l (record { by = by; line = line; done = done } ∷ older) (entries_of in_file_of session l)) (sym h.0)
-      (more_none in_file_of (file_place item) (λ older d before added. FileDoes d.by d.line.call d.done before added) session old older (entries_of in_file_of session old) (record { by = by; line = line; done = done }) h.1 m)
-  file_by item older old new (inr h) m = subst (λ l. FileMatches item session l (record { by = by; line = line; done = done } ∷ older) (entries_of in_file_of session l)) (sym h.2)
-      (more_some in_file_of (file_place item) (λ older d before added. FileDoes d.by d.line.call d.done before added) session old h.0 h.1 older (record { by = by; line = line; done = done }) h.3 h.4 h.5 h.6
-      (stays in_file_of (file_place item) (λ older d before added. FileDoes d.by d.line.call d.done before added) (λ older d before added. FileDoes d.by d.line.call d.done before added)
-      (λ older d before added x. x) session old (h.0 ++ h.1 ∷ []) older (entries_of in_file_of session old) m))
+  file_on : (item : ℕ) (older : List Served) (old more mine : List Entry) → FileMatches holds item session old older mine → FileMatches holds' item session (old ++ more) older mine
+  file_on item older old more mine m = stays in_file_of (file_place item) (λ older d before added. FileDoes holds d.by d.line.call d.done before added) (λ older d before added. FileDoes holds' d.by d.line.call d.done before added)
+      (λ older d before added x. file_stays holds holds' fewer d.by d.line.call d.done before added x) session old more older mine m
 
-  handle_by : (older : List Served) (handle : ℕ) → Fits session older s → file_at t.table handle ≡ open_at (record { by = by; line = line; done = done } ∷ older) handle
+  file_by : (item : ℕ) (older : List Served) (old new : List Entry) → Grows in_file_of session (FileDoes holds' by line.call done) (place_in item done.file) old new
+      → FileMatches holds item session old older (entries_of in_file_of session old)
+      → FileMatches holds' item session new (record { by = by; line = line; done = done } ∷ older) (entries_of in_file_of session new)
+  file_by item older old new (inl h) m = subst (λ l. FileMatches holds' item session l (record { by = by; line = line; done = done } ∷ older) (entries_of in_file_of session l)) (sym h.0)
+      (more_none in_file_of (file_place item) (λ older d before added. FileDoes holds' d.by d.line.call d.done before added) session old older (entries_of in_file_of session old) (record { by = by; line = line; done = done }) h.1
+      (subst (λ l. FileMatches holds' item session l older (entries_of in_file_of session old)) (append-nil old) (file_on item older old [] (entries_of in_file_of session old) m)))
+  file_by item older old new (inr h) m = subst (λ l. FileMatches holds' item session l (record { by = by; line = line; done = done } ∷ older) (entries_of in_file_of session l)) (sym h.2)
+      (more_some in_file_of (file_place item) (λ older d before added. FileDoes holds' d.by d.line.call d.done before added) session old h.0 h.1 older (record { by = by; line = line; done = done }) h.3 h.4 h.5 h.6
+      (file_on item older old (h.0 ++ h.1 ∷ []) (entries_of in_file_of session old) m))
+
+  handle_by : (older : List Served) (handle : ℕ) → Fits session holds older s → file_at t.table handle ≡ open_at (record { by = by; line = line; done = done } ∷ older) handle
   handle_by older handle f = did.handles handle ∙ ap (open_after line.call done handle) (f.handles handle)
 
-  full_by : (older : List Served) → Fits session older s → AreFull t.limit t.tree t.files (record { by = by; line = line; done = done } ∷ older)
+  full_by : (older : List Served) → Fits session holds older s → AreFull t.limit t.tree t.files (record { by = by; line = line; done = done } ∷ older)
   full_by older f =
       let more_tree = grown in_tree_of session (TreeDoes by t.files line.call done) done.tree s.tree t.tree did.in_tree in
       let tree : tree_then t.tree older ≡ s.tree = ap (λ l. take (reached tree_place older) l) more_tree.1 ∙ take_whole s.tree more_tree.0 _ f.tree_end in
@@ -154,7 +210,7 @@ module _ (session : ℕ) (by : By) (line : CallLine) (done : Record) (s t : Stat
         full_stays older t.limit s.limit s.tree t.tree s.files t.files did.limit more_tree.0 more_tree.1 files_on (omega (arith, f.tree_end)) (λ i. omega (arith, f.file_end i)) f.matching.full,
       )
 
-  pub goes : t.records ≡ s.records ++ done ∷ [] → (older : List Served) → Fits session older s → Fits session (record { by = by; line = line; done = done } ∷ older) t
+  pub goes : t.records ≡ s.records ++ done ∷ [] → (older : List Served) → Fits session holds older s → Fits session holds' (record { by = by; line = line; done = done } ∷ older) t
   goes e older f = record {
     matching = record {
       own = (own, f.matching.own);
@@ -166,5 +222,5 @@ module _ (session : ℕ) (by : By) (line : CallLine) (done : Record) (s t : Stat
     handles = λ handle. handle_by older handle f;
     records = e ∙ ap (λ l. l ++ done ∷ []) f.records ∙ sym (records_of older (record { by = by; line = line; done = done }));
     tree_end = ended in_tree_of session (TreeDoes by t.files line.call done) done.tree _ s.tree t.tree did.in_tree f.tree_end;
-    file_end = λ item. ended in_file_of session (FileDoes by line.call done) (place_in item done.file) _ (entries_in s.files item) (entries_in t.files item) (did.in_file item) (f.file_end item);
+    file_end = λ item. ended in_file_of session (FileDoes holds' by line.call done) (place_in item done.file) _ (entries_in s.files item) (entries_in t.files item) (did.in_file item) (f.file_end item);
   }

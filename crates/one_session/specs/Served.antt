@@ -1,11 +1,14 @@
 -- How a session's calls, records and handles match the histories.
-use Rattle.std.specs.Prelude.{◌≡◌, ◌≤◌, ◌+◌, ◌++◌, ℕ, ◌==◌, ◌&&◌, Bool, true, false, Option, Some, None, List, [], ◌∷◌, length, map, max, reverse, take, if◌then◌else◌}
+use Rattle.std.specs.Prelude.{◌≡◌, ◌≢◌, ◌+◌, ◌++◌, ℕ, ◌==◌, ◌&&◌, Bool, true, false, Option, Some, None, List, [], ◌∷◌, length, map, max, reverse, take, if◌then◌else◌}
 use Rattle.std.specs.List.{AllByRecursion}
+use Rattle.vfs_names.specs.declared.fingerprint.Fingerprint.{Fingerprint}
 use Rattle.vfs_names.specs.declared.who.Actor.{Actor}
 use Rattle.vfs_names.specs.declared.who.Actor.TheVariants.{Main, Session, Worker}
 use Rattle.vfs_names.specs.declared.who.By.{By}
 use Rattle.vfs_names.specs.declared.who.ItemId.{ItemId}
 use Rattle.vfs_outside.specs.declared.tree.TreeEntry.{TreeEntry}
+use Rattle.item_core.specs.Content.{Known}
+use Rattle.memory_item.specs.Known.{Holds}
 use Rattle.item_core.specs.declared.entry.Entry.{Entry}
 use Rattle.session_script.specs.declared.call.Call.{Call}
 use Rattle.session_script.specs.declared.call.Call.TheVariants as call
@@ -16,9 +19,9 @@ use Rattle.session_text.specs.declared.reply.Reply.TheVariants as reply
 use Rattle.one_session.specs.Calls.{Answers, TreeDoes, FileDoes, IsFull}
 use Rattle.one_session.specs.Matching.{entries_of, Matches}
 use Rattle.one_session.specs.State.{History, State, entries_in, file_at}
-use Rattle.vfs_outside.specs.Causes.{Rose}
-use Rattle.vfs_outside.specs.Outside.{Outside}
+use Rattle.one_session.specs.declared.handle.Handle.{Handle}
 use Rattle.vfs_names.specs.declared.refusal.Refusal.TheVariants as why
+use Rattle.vfs_names.specs.declared.calls.Access.{Access}
 use Rattle.vfs_names.specs.declared.calls.Access.TheVariants as access
 
 -- a call of a session: who made it and when, its line, and what was recorded of it
@@ -43,18 +46,19 @@ abbrev pub is_done : Reply → Bool
 is_done reply.Done = true
 is_done _ = false
 
-abbrev pub file_number : Option (ItemId × ℕ) → Option ℕ
-file_number None = None
-file_number (Some f) = Some f.0.0
+-- a handle of the file of this place
+abbrev pub handle_of : Access → Option (ItemId × ℕ) → Option Handle
+handle_of access None = None
+handle_of access (Some f) = Some (record { item = f.0.0; access = access })
 
--- the file that a call leaves open at a handle, from the one before
-abbrev pub open_after : Call → Record → ℕ → Option ℕ → Option ℕ
-open_after (call.Open h path how) r handle old = if h == handle && is_done r.reply then file_number r.file else old
+-- what a call leaves open at a handle, from what was open before
+abbrev pub open_after : Call → Record → ℕ → Option Handle → Option Handle
+open_after (call.Open h path how) r handle old = if h == handle && is_done r.reply then handle_of how.access r.file else old
 open_after (call.Close h) r handle old = if h == handle && is_done r.reply then None else old
 open_after _ r handle old = old
 
--- the file that a handle has open after some calls, the newest first: that of its last open that was done and wasn't closed
-abbrev pub open_at : List Served → ℕ → Option ℕ
+-- what is open at a handle after some calls, the newest first: what its last open that was done and wasn't closed left
+abbrev pub open_at : List Served → ℕ → Option Handle
 open_at [] handle = None
 open_at (d ∷ older) handle = open_after d.line.call d.done handle (open_at older handle)
 
@@ -82,9 +86,9 @@ file_place item d = place_in item d.done.file
 abbrev pub TreeMatches : ℕ → List History → List TreeEntry → List Served → List TreeEntry → Type 0
 TreeMatches session files history = Matches in_tree_of tree_place (λ older d before added. TreeDoes d.by files d.line.call d.done before added) session history
 
--- and so are its entries of a file
-abbrev pub FileMatches : ℕ → ℕ → List Entry → List Served → List Entry → Type 0
-FileMatches item session history = Matches in_file_of (file_place item) (λ older d before added. FileDoes d.by d.line.call d.done before added) session history
+-- and so are its entries of a file, by the contents that hold what was handed out
+abbrev pub FileMatches : (Known → Type 0) → ℕ → ℕ → List Entry → List Served → List Entry → Type 0
+FileMatches holds item session history = Matches in_file_of (file_place item) (λ older d before added. FileDoes holds d.by d.line.call d.done before added) session history
 
 -- the length of a history to which these calls alone added, the newest first: it ends after the greatest of their places
 abbrev pub reached : (Served → Option ℕ) → List Served → ℕ
@@ -107,39 +111,35 @@ AreFull limit history files (d ∷ older) =
 
 -- What a session's calls, the newest first, left, where nobody else calls: each call was answered as its handles stood,
 -- and for the tree and for each file the session's entries are, call by call, those that the call adds, its place is the
--- last of them, and its reply is the answer there. Where a call was refused since a history is full, too few of that many
--- places were free.
-pub record IsServed (session limit : ℕ) (served : List Served) (history : List TreeEntry) (files : List History) : Type 0 where
+-- last of them, and its reply is the answer there, by the contents that hold what was handed out. Where a call was refused
+-- since a history is full, too few of that many places were free.
+pub record IsServed (session : ℕ) (holds : Known → Type 0) (limit : ℕ) (served : List Served) (history : List TreeEntry) (files : List History) : Type 0 where
   pub own : AllByRecursion (λ (d : Served). d.by.who.actor ≡ Session session) served
   pub answered : AreAnswered served
   pub tree : TreeMatches session files history served (entries_of in_tree_of session history)
-  pub file : (item : ℕ) → FileMatches item session (entries_in files item) served (entries_of in_file_of session (entries_in files item))
+  pub file : (item : ℕ) → FileMatches holds item session (entries_in files item) served (entries_of in_file_of session (entries_in files item))
   pub full : AreFull limit history files served
 
 -- the state is what these calls left, the newest first
-pub record Fits (session : ℕ) (served : List Served) (s : State) : Type 0 where
-  pub matching : IsServed session s.limit served s.tree s.files
+pub record Fits (session : ℕ) (holds : Known → Type 0) (served : List Served) (s : State) : Type 0 where
+  pub matching : IsServed session holds s.limit served s.tree s.files
   pub handles : (handle : ℕ) → file_at s.table handle ≡ open_at served handle
   pub records : s.records ≡ map (λ (d : Served). d.done) (reverse served)
   pub tree_end : reached tree_place served ≡ length s.tree
   pub file_end : (item : ℕ) → reached (file_place item) served ≡ length (entries_in s.files item)
 
--- one call more was served: it was recorded so, and the new state is what it and the older calls left
-pub record Serves (session : ℕ) (by : By) (line : CallLine) (done : Record) (s t : State) : Type 0 where
-  pub fits : (older : List Served) → Fits session older s → Fits session (record { by = by; line = line; done = done } ∷ older) t
+-- one call more was served: it was recorded so, and the new state is what it and the older calls left, by the contents that
+-- hold what was handed out before it and after it
+pub record Serves (session : ℕ) (tells : Type 0) (before after : List (Fingerprint × List ℕ)) (by : By) (line : CallLine) (done : Record) (s t : State) : Type 0 where
+  pub fits : (older : List Served) → Fits session (Holds tells before) older s → Fits session (Holds tells after) (record { by = by; line = line; done = done } ∷ older) t
   pub records : t.records ≡ s.records ++ done ∷ []
   pub limit : t.limit ≡ s.limit
+  pub more : List TreeEntry
+  pub grew : t.tree ≡ s.tree ++ more
 
--- a refusal for the remote has its cause: a count of the remote's that rose
-pub record HasRemoteCause (done : Record) (old new : Outside) : Type 0 where
-  pub faults : old.faults ≤ new.faults
-  pub changes : old.changes ≤ new.changes
-  pub fault : done.reply ≡ reply.Refused why.RemoteFault → Rose old.faults new.faults
-  pub missing : done.reply ≡ reply.Refused why.NotFound → Rose old.changes new.changes
-
--- the calls that can be served: an open to read and write that makes what isn't there, a read, a write and a close
+-- the calls that can be served: an open to read, or to read and write, a read, a write and a close
 abbrev pub IsServable : Call → Type 0
-IsServable (call.Open h path how) = how.access ≡ access.Both
+IsServable (call.Open h path how) = how.access ≢ access.Write
 IsServable (call.Read h pos len) = Unit {0}
 IsServable (call.Write h pos payload) = Unit {0}
 IsServable (call.Close h) = Unit {0}

@@ -1,33 +1,50 @@
 -- What is kept for a session beside the records of its calls.
-use Rattle.std.specs.Prelude.{◌≡◌, ℕ, List, []}
+use Rattle.std.specs.Prelude.{◌≡◌, ℕ, false, List, [], reverse}
+use Rattle.vfs_names.specs.declared.fingerprint.Fingerprint.{Fingerprint}
 use Rattle.vfs_names.specs.declared.who.By.{By}
 use Rattle.vfs_outside.specs.Outside.{Outside}
+use Rattle.item_core.specs.Content.{Known}
 use Rattle.session_script.specs.declared.call.Call.{Call}
 use Rattle.session_text.specs.declared.reply.Record.{Record}
 use Rattle.one_session.specs.declared.outcome.Outcome.{Outcome}
 use Rattle.one_session.specs.declared.store.Store.{Store}
+use Rattle.one_session.specs.Causes.{HasRemoteCause, ReadCause, ends_gone}
 use Rattle.one_session.specs.Did.{Did}
-use Rattle.one_session.specs.Served.{HasRemoteCause}
 use Rattle.one_session.specs.Sound.{IsSound}
 use Rattle.one_session.specs.State.{State}
+use Rattle.one_session.specs.Views.{behind_all, given_all, histories}
 
 -- the state with these records, and room for more of them
-abbrev pub state_of : Store → List Record → ℕ → State
-state_of s records room = record { tree = s.tree.entries; files = s.files.files; limit = s.files.limit; table = s.table.items; records = records; room = room }
+abbrev pub state_of : {O S : Type 0} → Store O S → List Record → ℕ → State
+state_of s records room = record {
+  tree = s.tree.entries;
+  files = histories s.files.items;
+  behind = behind_all s.files.items;
+  pairs = given_all s.files.items;
+  limit = s.files.limit;
+  table = s.table.items;
+  records = records;
+  room = room;
+}
 
--- its parts fit together, and have one limit
-pub record IsSoundStore (s : Store) : Type 0 where
-  pub sound : IsSound s.tree.entries s.paths.paths s.files.files s.table.items
+-- its parts fit together and have one limit, and the tree says of no object that it is gone without what came of it
+pub record IsSoundStore {O S : Type 0} (s : Store O S) : Type 0 where
+  pub sound : IsSound s.tree.entries s.paths.paths (histories s.files.items) s.table.items
   pub limit : s.tree.limit ≡ s.files.limit
+  pub settled : (path : List ℕ) → ends_gone (reverse s.tree.entries) path ≡ false
 
 -- what is recorded of a call of this line
 abbrev pub recorded : ℕ → Outcome → Record
 recorded line outcome = record { line = line; reply = outcome.reply; tree = outcome.tree; file = outcome.file }
 
 -- a call by this maker was answered so, and did what it then does
-abbrev pub Answered : By → Call → Outcome → Store → Store → Type 0
-Answered by call outcome old new = (line : ℕ) → Did 1 by call (recorded line outcome) (state_of old [] 0) (state_of new [] 0)
+abbrev pub Answered : {O S : Type 0} → (Known → Type 0) → By → Call → Outcome → Store O S → Store O S → Type 0
+Answered holds by call outcome old new = (line : ℕ) → Did 1 holds by call (recorded line outcome) (state_of old [] 0) (state_of new [] 0)
 
 -- a refusal for the remote has its cause
-abbrev pub IsCaused : Outcome → Outside → Outside → Type 0
-IsCaused outcome old new = (line : ℕ) → HasRemoteCause (recorded line outcome) old new
+abbrev pub IsCaused : {O S : Type 0} → Call → Outcome → Store O S → Outside → Outside → Type 0
+IsCaused call outcome s old new = (line : ℕ) → HasRemoteCause call (recorded line outcome) s.tree.entries old new
+
+-- and so has a refusal for an object
+abbrev pub IsReadCaused : {O S : Type 0} → Call → Outcome → Store O S → Store O S → Type 0
+IsReadCaused call outcome old new = (line : ℕ) → ReadCause call (recorded line outcome) (state_of old [] 0) (state_of new [] 0)

@@ -1,28 +1,49 @@
 -- What a session's calls leave: the histories, the handles and the records.
-use Rattle.std.specs.Prelude.{ℕ, Option, None, List, [], slice_index_or}
+use Rattle.std.specs.Prelude.{ℕ, Option, None, Some, List, [], slice_index_or}
+use Rattle.vfs_names.specs.declared.fingerprint.Fingerprint.{Fingerprint}
 use Rattle.item_core.specs.declared.entry.Entry.{Entry}
+use Rattle.memory_item.specs.Item.{Behind}
 use Rattle.session_text.specs.declared.reply.Record.{Record}
 use Rattle.vfs_outside.specs.declared.tree.TreeEntry.{TreeEntry}
+use Rattle.one_session.specs.declared.handle.Handle.{Handle}
 
 -- a file's history, its oldest entry first, and beside it a path for each entry that names the file anew
 pub record History : Type 0 where
   pub entries : List Entry
   pub names : List (List ℕ)
 
--- the entries of a file; none where there is no such file
-abbrev pub entries_in : List History → ℕ → List Entry
-entries_in files item = (slice_index_or files item (record { entries = []; names = [] })).entries
+-- the history of a file; an empty one where there is no such file
+abbrev pub history_in : List History → ℕ → History
+history_in files item = slice_index_or files item (record { entries = []; names = [] })
 
--- the tree's history, the files' histories by number, the most places that each of these may have, the file that each
--- handle has open, the records, oldest first, and for how many more records there is room
+abbrev pub entries_in : List History → ℕ → List Entry
+entries_in files item = (history_in files item).entries
+
+abbrev pub names_in : List History → ℕ → List (List ℕ)
+names_in files item = (history_in files item).names
+
+-- the object behind a file
+abbrev pub behind_in : List (Option Behind) → ℕ → Option Behind
+behind_in behind item = slice_index_or behind item None
+
+-- The tree's history; the files' histories by number; the object behind each file, and the fingerprints and bytes of the
+-- objects that each was given; the most places that each history may have; what each handle has open; the records, oldest
+-- first, and for how many more records there is room.
 pub record State : Type 0 where
   pub tree : List TreeEntry
   pub files : List History
+  pub behind : List (Option Behind)
+  pub pairs : List (List (Fingerprint × List ℕ))
   pub limit : ℕ
-  pub table : List (Option ℕ)
+  pub table : List (Option Handle)
   pub records : List Record
   pub room : ℕ
 
--- the file that a handle has open
-abbrev pub file_at : List (Option ℕ) → ℕ → Option ℕ
+-- what a handle has open
+abbrev pub file_at : List (Option Handle) → ℕ → Option Handle
 file_at table handle = slice_index_or table handle None
+
+-- the file of a handle
+abbrev pub item_at : Option Handle → Option ℕ
+item_at None = None
+item_at (Some handle) = Some handle.item

@@ -1,11 +1,15 @@
 -- What the parts of a session's state are seen as.
-use Rattle.std.specs.Prelude.{ℕ, ◌++◌, List, [], reverse, set, get_or}
-use Rattle.item_core.specs.Log.{Log}
+use Rattle.std.specs.Prelude.{ℕ, ◌++◌, Option, None, List, [], map, reverse, set, slice_index_or}
+use Rattle.vfs_names.specs.declared.fingerprint.Fingerprint.{Fingerprint}
+use Rattle.vfs_names.specs.declared.refusal.Refusal.{Refusal}
+use Rattle.vfs_names.specs.declared.refusal.Refusal.TheVariants as why
+use Rattle.vfs_names.specs.declared.who.ItemId.{ItemId}
 use Rattle.item_core.specs.declared.entry.Entry.{Entry}
+use Rattle.memory_item.specs.Item.{Behind, Item}
 use Rattle.vfs_outside.specs.declared.tree.TreeEntry.{TreeEntry}
 use Rattle.vfs_outside.specs.declared.tree.TreeKind.{TreeKind}
 use Rattle.vfs_outside.specs.declared.tree.TreeKind.TheVariants.{Created, Opened, Closed}
-use Rattle.one_session.specs.State.{History}
+use Rattle.one_session.specs.State.{History, entries_in, names_in}
 
 -- the tree's entries, the oldest first; the most places that there may be; and the places for which room is made, those
 -- that are kept for the closes of open handles aside
@@ -26,31 +30,38 @@ pub record Numbered : Type 0 where
   pub paths : List (List ℕ)
   pub spare : ℕ
 
--- a file's history as it is counted, and the paths beside it, the oldest first
-pub record FileView : Type 0 where
-  pub log : Log
-  pub names : List (List ℕ)
-
--- the file's history in the order in which it is stored
-abbrev pub stored : FileView → History
-stored file = record { entries = reverse file.log.past; names = file.names }
-
--- the room of a file, in entries
-abbrev pub room_of : FileView → ℕ
-room_of file = file.log.spare
-
--- the files' histories by number, the most places that each may have, for how many more entries each has room, and for
--- how many more files there is room
+-- the files by number, the most places that each may have, and for how many more files there is room
 pub record Shelf : Type 0 where
-  pub files : List History
+  pub items : List Item
   pub limit : ℕ
-  pub room : List ℕ
   pub spare : ℕ
 
--- a history with these entries more
-abbrev pub with_more : List Entry → History → History
-with_more more file = record { entries = file.entries ++ more; names = file.names }
+-- a file's history in the order in which it is stored
+abbrev pub stored : Item → History
+stored item = record { entries = reverse item.log.past; names = item.names }
 
--- the files with these entries more in one of them
-abbrev pub add_to : List History → ℕ → List Entry → List History
-add_to files item more = set files item (with_more more (get_or files item (record { entries = []; names = [] })))
+abbrev pub histories : List Item → List History
+histories items = map stored items
+
+abbrev pub behind_all : List Item → List (Option Behind)
+behind_all items = map (λ (item : Item). item.behind) items
+
+abbrev pub given_all : List Item → List (List (Fingerprint × List ℕ))
+given_all items = map (λ (item : Item). item.pairs) items
+
+-- the place in a file of a read that is refused so: one for the object says so there
+abbrev pub refused_place : Refusal → Option (ItemId × ℕ) → Option (ItemId × ℕ)
+refused_place why.RemoteFault place = place
+refused_place (why.Stale held found) place = place
+refused_place _ place = None
+
+-- a file with nothing in it
+abbrev pub blank : Item
+blank = record { log = record { past = []; limit = 0; spare = 0 }; names = []; pairs = []; behind = None; here = []; spare = 0 }
+
+abbrev pub item_in : List Item → ℕ → Item
+item_in items item = slice_index_or items item blank
+
+-- the files with these entries more in one of them, and these paths beside them
+abbrev pub add_to : List History → ℕ → List Entry → List (List ℕ) → List History
+add_to files item more names = set files item (record { entries = entries_in files item ++ more; names = names_in files item ++ names })

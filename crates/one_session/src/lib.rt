@@ -1,20 +1,26 @@
-//! The calls of one session on files that it makes.
+//! The calls of one session: opens of what the remote's root shows or what is made there, reads, writes and closes.
 #![tactic(auto)]
 
-mod file;
 mod files;
+mod handle;
 mod laws;
 mod log;
 mod open;
+mod opening;
+mod opens;
 mod outcome;
 mod paths;
+mod plan;
 mod session;
+mod start;
 mod store;
 mod tree;
 mod tree_entry;
 
+pub use handle::Handle;
 pub use laws::what_a_call_does_matches;
-pub use log::{EpochLog, FileLog};
+pub use log::EpochLog;
+pub use memory_item::FileLog;
 pub use session::OneSession;
 
 #[cfg(test)]

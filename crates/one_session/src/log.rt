@@ -1,14 +1,6 @@
-use item_core::Entry;
+use memory_item::FileLog;
 use session_text::Record;
-use vfs_names::VPath;
 use vfs_outside::TreeEntry;
-
-/// A file's history, its oldest entry first, and beside it a path for each entry that names the file anew.
-#[derive(Debug, Drop)]
-pub struct FileLog {
-    pub entries: Vec<Entry>,
-    pub names: Vec<VPath>,
-}
 
 /// What was kept of an epoch: the tree's history, the files' histories by number, and the records of its calls.
 #[derive(Debug, Drop)]

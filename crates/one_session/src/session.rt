@@ -1,8 +1,11 @@
-ghost use Rattle.std.specs.Prelude.{◌≡◌, ◌<◌, ◌≤◌, ◌+◌, [], map, OnOk, OnErr, IfOk};
+ghost use Rattle.std.specs.Prelude.{◌≡◌, ◌<◌, ◌≤◌, ◌+◌, ℕ, List, [], map, OnOk, OnErr, IfOk};
+ghost use Rattle.vfs_names.specs.declared.fingerprint.Fingerprint.{Fingerprint};
 ghost use Rattle.vfs_names.specs.declared.who.Actor.TheVariants.{Session};
 ghost use Rattle.session_text.specs.declared.reply.Record.{Record};
+ghost use Rattle.memory_item.specs.Known.{Holds};
+ghost use Rattle.one_session.specs.Causes.{AreGiven, HasRemoteCause, ReadCause};
 ghost use Rattle.one_session.specs.Logs.{history_of};
-ghost use Rattle.one_session.specs.Served.{Fits, HasRemoteCause, IsServable, Serves};
+ghost use Rattle.one_session.specs.Served.{Fits, IsServable, Serves};
 ghost use Rattle.one_session.specs.Whole.{IsUpTo, IsWhole};
 
 use crate::EpochLog;
@@ -13,16 +16,16 @@ use session_text::Record;
 use std::alloc::Global;
 use std::marker::Model;
 use vfs_names::{By, NoMemory};
-use vfs_outside::Remote;
+use vfs_outside::{Object, Remote};
 
-/// One session's calls on files that it makes. Contracts see its histories, its handles and its records.
+/// One session's calls. Contracts see its histories, its handles, the objects behind its files and its records.
 #[derive(Drop)]
-pub struct OneSession {
-    store: Store,
+pub struct OneSession<O: Object> {
+    store: Store<O>,
     records: Vec<Record>,
 }
 
-impl Model for OneSession {
+impl<O: Object> Model for OneSession<O> {
     ghost use Rattle.std.specs.Prelude.{◌-◌, vec_len, vec_capacity};
     ghost use Rattle.one_session.specs.Standing.{IsSoundStore, state_of};
     ghost use Rattle.one_session.specs.State.{State};
@@ -35,12 +38,14 @@ impl Model for OneSession {
     ghost invariant = { λ s. IsSoundStore s.store };
 }
 
-impl OneSession {
+impl<O: Object> OneSession<O> {
     /// No call was served yet. Each history is to have at most `limit` places.
-    pub fn new(alloc: Global, limit: u32) -> Result<OneSession, NoMemory>
-        ensures fits { IfOk result (λ s. Fits 1 [] s) }
+    pub fn new(alloc: Global, limit: u32) -> Result<OneSession<O>, NoMemory>
+        ensures fits { (handed : List (Fingerprint × List ℕ))
+            → IfOk result (λ s. Fits 1 (Holds O.tells handed) [] s) }
         ensures limit { IfOk result (λ s. s.limit ≡ limit) }
         ensures none { IfOk result (λ s. s.files ≡ []) }
+        ensures given { IfOk result (λ s. s.pairs ≡ []) }
     {
         match Store::new(alloc, limit) {
             Ok(store) => Ok(OneSession {
@@ -64,16 +69,28 @@ impl OneSession {
     }
 
     /// Serves a call of the session: does it, and records its answer. Takes constant time beside the bytes and names that
-    /// it handles, but for an open, which looks at each row of the root's listing.
-    pub fn serve<R: Remote>(&mut self, alloc: Global, remote: &mut R, by: By, line: &CallLine)
+    /// it handles, but for the first open, which lists the root.
+    pub fn serve<R: Remote<Object = O>>(
+        &mut self,
+        alloc: Global,
+        remote: &mut R,
+        by: By,
+        line: &CallLine,
+    )
         requires room { 0 < self.old.room }
         requires servable { IsServable line.now.call }
         requires session { line.now.session ≡ 1 }
         requires actor { by.who.actor ≡ Session 1 }
         requires pass { by.pass ≡ 0 }
         requires later { IsUpTo by self.old.files }
-        ensures served { (done : Record) × Serves 1 by line.now done self.old self.new
-            × HasRemoteCause done (R.outside remote.old) (R.outside remote.new) }
+        requires given { AreGiven O.tells (R.outside remote.old).handed self.old.pairs }
+        ensures served { (done : Record)
+            × Serves 1 O.tells (R.outside remote.old).handed (R.outside remote.new).handed
+            by line.now done self.old self.new
+            × HasRemoteCause line.now.call done self.new.tree (R.outside remote.old)
+            (R.outside remote.new)
+            × ReadCause line.now.call done self.old self.new }
+        ensures given { AreGiven O.tells (R.outside remote.new).handed self.new.pairs }
         ensures later { IsUpTo by self.new.files }
         ensures room { self.old.room ≤ self.new.room + 1 }
     {

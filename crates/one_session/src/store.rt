@@ -1,21 +1,26 @@
-ghost use Rattle.std.specs.Prelude.{◌≡◌, ◌≢◌, ◌<◌, ◌≤◌, ◌^◌, ◌+◌, ℕ, [], false, length, IfOk};
+ghost use Rattle.std.specs.Prelude.{◌≡◌, ◌≢◌, ◌<◌, ◌≤◌, ◌^◌, ◌+◌, ℕ, List, [], None, false, length, IfOk};
+ghost use Rattle.vfs_names.specs.declared.fingerprint.Fingerprint.{Fingerprint};
 ghost use Rattle.vfs_names.specs.declared.who.Actor.TheVariants.{Session};
 ghost use Rattle.vfs_names.specs.Payload.{payload_len};
+ghost use Rattle.memory_item.specs.Known.{Holds};
 ghost use Rattle.session_script.specs.declared.call.Call.TheVariants as call;
+ghost use Rattle.one_session.specs.Causes.{AreGiven};
 ghost use Rattle.one_session.specs.Served.{IsServable};
-ghost use Rattle.one_session.specs.Standing.{Answered, IsCaused, IsSoundStore};
+ghost use Rattle.one_session.specs.Standing.{Answered, IsCaused, IsReadCaused, IsSoundStore};
 ghost use Rattle.one_session.specs.State.{file_at};
+ghost use Rattle.one_session.specs.Views.{behind_all, given_all, histories};
 ghost use Rattle.one_session.specs.Whole.{IsUpTo};
 
 use crate::files::Files;
+use crate::handle::Handle;
 use crate::outcome::Outcome;
 use crate::paths::Paths;
 use crate::tree::Tree;
 use session_script::Call;
 use session_text::Reply;
 use std::alloc::Global;
-use vfs_names::{By, ItemId, NoMemory, Payload, Refusal};
-use vfs_outside::{Remote, TreeEntry, TreeKind};
+use vfs_names::{Access, By, ItemId, NoMemory, Payload, Refusal};
+use vfs_outside::{Object, Remote, TreeEntry, TreeKind};
 
 /// The longest read or write, in bytes.
 const LENGTH_LIMIT: u64 = 131_072;
@@ -23,22 +28,22 @@ const LENGTH_LIMIT: u64 = 131_072;
 /// The end of the longest file, in bytes.
 const SIZE_LIMIT: u64 = 1 << 40;
 
-/// What is kept for a session beside the records of its calls: the tree's history, the paths of the files that it made,
-/// the files, and the file that each handle has open.
+/// What is kept for a session beside the records of its calls: the tree's history, the paths of the files, the files, and
+/// what each handle has open.
 #[derive(Drop)]
-pub(crate) struct Store {
+pub(crate) struct Store<O: Object> {
     pub(crate) tree: Tree,
     pub(crate) paths: Paths,
-    pub(crate) files: Files,
-    pub(crate) table: Vec<Option<u32>>,
+    pub(crate) files: Files<O>,
+    pub(crate) table: Vec<Option<Handle>>,
 }
 
-impl Store {
+impl<O: Object> Store<O> {
     /// Nothing was called yet. Each history is to have at most `limit` places.
-    pub(crate) fn new(alloc: Global, limit: u32) -> Result<Store, NoMemory>
+    pub(crate) fn new(alloc: Global, limit: u32) -> Result<Store<O>, NoMemory>
         ensures sound { IfOk result IsSoundStore }
         ensures tree { IfOk result (λ s. s.tree.entries ≡ []) }
-        ensures files { IfOk result (λ s. s.files.files ≡ []) }
+        ensures files { IfOk result (λ s. s.files.items ≡ []) }
         ensures limit { IfOk result (λ s. s.files.limit ≡ limit) }
         ensures handles { IfOk result (λ s. (handle : ℕ) → file_at s.table.items handle ≡ None) }
     {
@@ -53,8 +58,8 @@ impl Store {
         })
     }
 
-    /// The file that a handle has open.
-    pub(crate) fn file_of(&self, handle: u8) -> Option<u32>
+    /// What a handle has open.
+    pub(crate) fn file_of(&self, handle: u8) -> Option<Handle>
         requires { length self.now.table.items ≡ 256 }
         ensures { result ≡ file_at self.now.table.items handle }
     {
@@ -66,25 +71,26 @@ impl Store {
         requires sound { IsSoundStore self.old }
         requires actor { by.who.actor ≡ Session 1 }
         requires pass { by.pass ≡ 0 }
-        requires later { IsUpTo by self.old.files.files }
+        requires later { IsUpTo by (histories self.old.files.items) }
         ensures sound { IsSoundStore self.new }
-        ensures later { IsUpTo by self.new.files.files }
-        ensures did { Answered by (call.Read handle pos len) result self.old self.new }
+        ensures later { IsUpTo by (histories self.new.files.items) }
+        ensures did { (handed : List (Fingerprint × List ℕ))
+            → AreGiven O.tells handed (given_all self.old.files.items)
+            → Answered (Holds O.tells handed) by (call.Read handle pos len) result self.old self.new }
+        ensures cause { IsReadCaused (call.Read handle pos len) result self.old self.new }
+        ensures given { given_all self.new.files.items ≡ given_all self.old.files.items }
     {
-        let Some(item) = self.file_of(handle) else {
+        let Some(opened) = self.file_of(handle) else {
             return Outcome::bare(Refusal::BadHandle);
         };
         if len > LENGTH_LIMIT {
             return Outcome::bare(Refusal::TooBig);
         }
-        let place = self.files.end(item);
-        match self.files.read(alloc, item, by, pos, len) {
-            Ok(found) => Outcome {
-                reply: Reply::Bytes(found),
-                tree: None,
-                file: Some((ItemId(item), place)),
-            },
-            Err(why) => Outcome::bare(why),
+        let place = self.files.end(opened.item);
+        let file = Some((ItemId(opened.item), place));
+        match self.files.read(alloc, opened.item, by, pos, len) {
+            Ok(found) => Outcome::of_file(Reply::Bytes(found), file),
+            Err(why) => Outcome::of_read(why, file),
         }
     }
 
@@ -100,25 +106,27 @@ impl Store {
         requires sound { IsSoundStore self.old }
         requires actor { by.who.actor ≡ Session 1 }
         requires pass { by.pass ≡ 0 }
-        requires later { IsUpTo by self.old.files.files }
+        requires later { IsUpTo by (histories self.old.files.items) }
         ensures sound { IsSoundStore self.new }
-        ensures later { IsUpTo by self.new.files.files }
-        ensures did { Answered by (call.Write handle pos payload.now) result self.old self.new }
+        ensures later { IsUpTo by (histories self.new.files.items) }
+        ensures did { (handed : List (Fingerprint × List ℕ))
+            → Answered (Holds O.tells handed) by (call.Write handle pos payload.now) result self.old self.new }
+        ensures given { given_all self.new.files.items ≡ given_all self.old.files.items }
     {
-        let Some(item) = self.file_of(handle) else {
+        let Some(opened) = self.file_of(handle) else {
             return Outcome::bare(Refusal::BadHandle);
         };
+        if opened.access == Access::Read {
+            return Outcome::bare(Refusal::NotWritable);
+        }
         let len = payload.len();
         if len > LENGTH_LIMIT || pos > SIZE_LIMIT - len {
             return Outcome::bare(Refusal::TooBig);
         }
-        let place = self.files.end(item);
-        match self.files.write(alloc, item, by, pos, payload) {
-            Ok(()) => Outcome {
-                reply: Reply::Wrote(len as u32),
-                tree: None,
-                file: Some((ItemId(item), place)),
-            },
+        let place = self.files.end(opened.item);
+        let file = Some((ItemId(opened.item), place));
+        match self.files.write(alloc, opened.item, by, pos, payload) {
+            Ok(()) => Outcome::of_file(Reply::Wrote(len as u32), file),
             Err(why) => Outcome::bare(why),
         }
     }
@@ -128,33 +136,33 @@ impl Store {
         requires sound { IsSoundStore self.old }
         requires actor { by.who.actor ≡ Session 1 }
         requires pass { by.pass ≡ 0 }
-        requires later { IsUpTo by self.old.files.files }
+        requires later { IsUpTo by (histories self.old.files.items) }
         ensures sound { IsSoundStore self.new }
-        ensures later { IsUpTo by self.new.files.files }
-        ensures did { Answered by (call.Close handle) result self.old self.new }
+        ensures later { IsUpTo by (histories self.new.files.items) }
+        ensures did { (handed : List (Fingerprint × List ℕ))
+            → Answered (Holds O.tells handed) by (call.Close handle) result self.old self.new }
+        ensures given { given_all self.new.files.items ≡ given_all self.old.files.items }
     {
-        let Some(item) = self.file_of(handle) else {
+        let Some(opened) = self.file_of(handle) else {
             return Outcome::bare(Refusal::BadHandle);
         };
-        let dirty = self.files.dirty(item);
+        let item = ItemId(opened.item);
+        let dirty = self.files.dirty(opened.item);
         let in_tree = self.tree.len();
-        let in_file = self.files.end(item);
-        let kind = TreeKind::Closed {
-            item: ItemId(item),
-            dirty,
-        };
+        let in_file = self.files.end(opened.item);
+        let kind = TreeKind::Closed { item, dirty };
         self.tree.push(TreeEntry { by, kind });
-        self.files.close_handle(item, by);
+        self.files.close_handle(opened.item, by);
         self.table[handle as usize] = None;
         Outcome {
             reply: Reply::Done,
             tree: Some(in_tree),
-            file: Some((ItemId(item), in_file)),
+            file: Some((item, in_file)),
         }
     }
 
     /// Answers a call.
-    pub(crate) fn answer<R: Remote>(
+    pub(crate) fn answer<R: Remote<Object = O>>(
         &mut self,
         alloc: Global,
         remote: &mut R,
@@ -165,11 +173,15 @@ impl Store {
         requires servable { IsServable call.now }
         requires actor { by.who.actor ≡ Session 1 }
         requires pass { by.pass ≡ 0 }
-        requires later { IsUpTo by self.old.files.files }
+        requires later { IsUpTo by (histories self.old.files.items) }
         ensures sound { IsSoundStore self.new }
-        ensures later { IsUpTo by self.new.files.files }
-        ensures did { Answered by call.now result self.old self.new }
-        ensures cause { IsCaused result (R.outside remote.old) (R.outside remote.new) }
+        ensures later { IsUpTo by (histories self.new.files.items) }
+        ensures did { AreGiven O.tells (R.outside remote.old).handed (given_all self.old.files.items)
+            → Answered (Holds O.tells (R.outside remote.new).handed) by call.now result self.old self.new }
+        ensures given { AreGiven O.tells (R.outside remote.old).handed (given_all self.old.files.items)
+            → AreGiven O.tells (R.outside remote.new).handed (given_all self.new.files.items) }
+        ensures cause { IsCaused call.now result self.new (R.outside remote.old) (R.outside remote.new) }
+        ensures read_cause { IsReadCaused call.now result self.old self.new }
     {
         match call {
             Call::Open { h, path, how } => self.open(alloc, remote, by, *h, path, *how),

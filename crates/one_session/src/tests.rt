@@ -2,7 +2,7 @@ ghost use Rattle.std.specs.Prelude.{◌≡◌, IfOk};
 ghost use Rattle.one_session.specs.Served.{IsServable};
 
 use crate::*;
-use remote_memory::MemoryRemote;
+use remote_memory::{MemoryObject, MemoryRemote};
 use session_script::{Call, CallLine};
 use session_text::{Record, Reply};
 use std::alloc::Global;
@@ -175,6 +175,6 @@ fn a_full_history_refuses_a_read_and_not_a_close(rt: HostRuntime) -> Result<(), 
     if records[4].file != Some((ItemId(0), 4)) {
         return Err(Fail::new("the close has its own"));
     }
-    what_a_call_does_matches();
+    what_a_call_does_matches::<MemoryObject>();
     Ok(())
 }

@@ -1,20 +1,25 @@
-ghost use Rattle.std.specs.Prelude.{◌≡◌, ◌++◌, ◌<◌, ◌≤◌, ◌+◌, ◌^◌, ◌↔◌, ◌⊎◌, [], ◌∷◌, true, false, OnOk, OnErr, IfErr, length};
-ghost use Rattle.one_session.specs.Tree.{free_places, handles_of, is_close, is_listed, is_shown, lists_root, shows};
+ghost use Rattle.std.specs.Prelude.{◌≡◌, ◌++◌, ◌<◌, ◌≤◌, ◌+◌, ◌^◌, ◌↔◌, ◌⊎◌, ℕ, List, [], ◌∷◌, true, false, OnOk, OnErr, IfErr, length};
+ghost use Rattle.shown_rows.specs.Shown.{shown_in, shown_by};
+ghost use Rattle.vfs_outside.specs.declared.tree.TreeKind.TheVariants as kinds;
+ghost use Rattle.one_session.specs.Calls.{in_tree};
+ghost use Rattle.one_session.specs.Tree.{free_places, handles_of, is_close, is_listed, lists_root, shown};
 ghost use Rattle.one_session.specs.Views.{tree_places};
 
-use crate::tree_entry::{entry_shows, handles_after, listing_after, put_entry};
+use crate::tree_entry::{handles_after, put_entry, reprint};
+use shown_rows::{Shown, ShownRows};
 use std::alloc::Global;
 use std::marker::Model;
-use vfs_names::{Refusal, VPath};
-use vfs_outside::TreeEntry;
+use vfs_names::{By, Refusal, VPath};
+use vfs_outside::{Listing, TreeEntry, TreeKind};
 
-/// The tree's history. Contracts see its entries, the oldest first. Each reader but `shows` takes constant time.
+/// The tree's history. Contracts see its entries, the oldest first. Each reader takes constant time.
 #[derive(Drop)]
 pub(crate) struct Tree {
     entries: Vec<TreeEntry>,
     limit: u32,
     handles: u32,
-    listing: Option<usize>,
+    listed: bool,
+    rows: ShownRows,
 }
 
 impl Model for Tree {
@@ -32,7 +37,7 @@ impl Model for Tree {
           (vec_capacity t.entries) t.limit - (vec_len t.entries + t.handles);
     } };
 
-    ghost invariant = { λ t. IsTold t.entries.items t.handles t.listing
+    ghost invariant = { λ t. IsTold t.entries.items t.handles t.listed t.rows
         × (vec_len t.entries + t.handles ≤ min (vec_capacity t.entries) t.limit) };
 }
 
@@ -45,7 +50,8 @@ impl Tree {
             entries: Vec::new(alloc),
             limit,
             handles: 0,
-            listing: None,
+            listed: false,
+            rows: ShownRows::new(alloc),
         }
     }
 
@@ -74,17 +80,14 @@ impl Tree {
     pub(crate) fn is_listed(&self) -> bool
         ensures { result ≡ is_listed self.now.entries }
     {
-        self.listing.is_some()
+        self.listed
     }
 
-    /// The listing of the root shows the path. Looks at each of its rows.
-    pub(crate) fn shows(&self, path: &VPath) -> bool
-        ensures { result ≡ is_shown self.now.entries path.now }
+    /// What the root shows at a path.
+    pub(crate) fn shows(&self, path: &VPath) -> Option<Shown>
+        ensures { result ≡ shown self.now.entries path.now }
     {
-        match self.listing {
-            None => false,
-            Some(at) => entry_shows(&self.entries[at].kind, path),
-        }
+        self.rows.get(path)
     }
 
     /// How many entries there are.
@@ -94,18 +97,33 @@ impl Tree {
         self.entries.len().min(self.limit as usize) as u32
     }
 
-    /// Adds an entry, for which room was made; takes no memory.
+    /// Adds a listing of the root with its rows, for which room was made; takes no memory.
+    pub(crate) fn push_listing(&mut self, by: By, root: VPath, listing: Listing, rows: ShownRows)
+        requires root { root ≡ [] }
+        requires rows { (name : List ℕ) → shown_in rows name ≡ shown_by listing.rows name }
+        requires place { 1 ≤ self.old.spare }
+        ensures entries { self.new.entries
+            ≡ self.old.entries ++ in_tree by (kinds.Listed [] listing) ∷ [] }
+        ensures limit { self.new.limit ≡ self.old.limit }
+        ensures spare { self.old.spare ≤ self.new.spare + 1 }
+    {
+        let kind = TreeKind::Listed { dir: root, listing };
+        put_entry(&mut self.entries, TreeEntry { by, kind });
+        self.listed = true;
+        self.rows = rows;
+    }
+
+    /// Adds an entry that doesn't list the root, for which room was made; takes no memory.
     pub(crate) fn push(&mut self, entry: TreeEntry)
         requires place { tree_places entry.kind ≤ self.old.spare }
         requires close { is_close entry.kind ≡ true → 0 < handles_of self.old.entries }
-        requires once { lists_root entry.kind ≡ true → is_listed self.old.entries ≡ false }
+        requires unlisted { lists_root entry.kind ≡ false }
         ensures entries { self.new.entries ≡ self.old.entries ++ entry ∷ [] }
         ensures limit { self.new.limit ≡ self.old.limit }
         ensures spare { self.old.spare ≤ self.new.spare + tree_places entry.kind }
     {
         self.handles = handles_after(&entry.kind, self.handles);
-        let at = self.entries.as_slice().len();
-        self.listing = listing_after(&entry.kind, self.listing, at);
+        reprint(&mut self.rows, &entry.kind);
         put_entry(&mut self.entries, entry);
     }
 

@@ -1,9 +1,10 @@
-ghost use Rattle.std.specs.Prelude.{◌≡◌, ◌<◌, ◌≤◌, ◌+◌, ◌++◌, ◌^◌, [], ◌∷◌, vec_len, vec_capacity};
-ghost use Rattle.one_session.specs.Tree.{has_row, lists_root, shows};
-ghost use Rattle.one_session.specs.TreeFacts.{handles_after, listing_after};
+ghost use Rattle.std.specs.Prelude.{◌≡◌, ◌<◌, ◌≤◌, ◌+◌, ◌++◌, ◌^◌, ℕ, List, [], ◌∷◌, false, vec_len, vec_capacity};
+ghost use Rattle.shown_rows.specs.Shown.{shown_in};
+ghost use Rattle.one_session.specs.Tree.{lists_root, shown_after};
+ghost use Rattle.one_session.specs.TreeFacts.{handles_after};
 
-use vfs_names::VPath;
-use vfs_outside::{Listing, TreeEntry, TreeKind};
+use shown_rows::ShownRows;
+use vfs_outside::{TreeEntry, TreeKind};
 
 /// The open handles after an entry.
 pub(crate) fn handles_after(kind: &TreeKind, handles: u32) -> u32
@@ -17,38 +18,24 @@ pub(crate) fn handles_after(kind: &TreeKind, handles: u32) -> u32
     }
 }
 
-/// The entry lists the root.
-fn lists_root(kind: &TreeKind) -> bool
-    ensures { result ≡ lists_root kind.now }
+/// What the root shows after an entry that doesn't list it; takes no memory.
+pub(crate) fn reprint(rows: &mut ShownRows, kind: &TreeKind)
+    requires { lists_root kind.now ≡ false }
+    ensures { (path : List ℕ) → shown_in rows.new path
+        ≡ shown_after kind.now path (shown_in rows.old path) }
 {
     match kind {
-        TreeKind::Listed { dir, .. } => dir.is_root(),
-        _ => false,
-    }
-}
-
-/// Where the root's listing stands after an entry at a place.
-pub(crate) fn listing_after(kind: &TreeKind, listing: Option<usize>, at: usize) -> Option<usize>
-    ensures { result ≡ listing_after kind.now listing at }
-{
-    if lists_root(kind) { Some(at) } else { listing }
-}
-
-/// The listing has a row of this name. Looks at each row.
-fn has_row(listing: &Listing, path: &VPath) -> bool
-    ensures { result ≡ has_row listing.now path.now }
-{
-    let name = path.as_str().as_bytes();
-    listing.rows().iter().any(|row| row.name.as_slice() == name)
-}
-
-/// The entry is a listing of the root that shows the path.
-pub(crate) fn entry_shows(kind: &TreeKind, path: &VPath) -> bool
-    ensures { result ≡ shows kind.now path.now }
-{
-    match kind {
-        TreeKind::Listed { dir, listing } => dir.is_root() && has_row(listing, path),
-        _ => false,
+        TreeKind::Gone(path) => rows.remove(path),
+        TreeKind::Opened {
+            path,
+            print: Some(print),
+            ..
+        } => {
+            if rows.get(path).is_some() {
+                rows.set_print(path, *print);
+            }
+        }
+        _ => {}
     }
 }
 

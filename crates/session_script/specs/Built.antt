@@ -10,14 +10,14 @@ use Rattle.session_script.specs.declared.call.What.{What}
 use Rattle.session_script.specs.declared.call.What.TheVariants as what
 use Rattle.session_script.specs.Words.{words_of}
 
-abbrev pub is_both : Access → Bool
-is_both access.Read = false
-is_both access.Write = false
-is_both access.Both = true
+abbrev pub may_read : Access → Bool
+may_read access.Read = true
+may_read access.Write = false
+may_read access.Both = true
 
--- a file is opened to be read and written, and made where there is none
-abbrev pub is_rw_create : How → Bool
-is_rw_create how = is_both how.access && how.create && not how.excl && not how.trunc && not how.append
+-- a file is opened to be read, or to be read and written, and maybe made where there is none
+abbrev pub is_plain_open : How → Bool
+is_plain_open how = may_read how.access && not how.excl && not how.trunc && not how.append
 
 -- the path has one name
 abbrev pub is_one_name : List ℕ → Bool
@@ -31,7 +31,7 @@ abbrev pub has_text : List ℕ → Bool
 has_text text = list_any is_text_word (words_of text)
 
 abbrev pub is_built_call : List ℕ → Call → Bool
-is_built_call text (call.Open h path how) = is_rw_create how && is_one_name path
+is_built_call text (call.Open h path how) = is_plain_open how && is_one_name path
 is_built_call text (call.Read h pos len) = true
 is_built_call text (call.Write h pos payload) = has_text text
 is_built_call text (call.Size h size) = false

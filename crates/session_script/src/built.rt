@@ -1,14 +1,14 @@
 ghost use Rattle.std.specs.Prelude.{◌≡◌};
-ghost use Rattle.session_script.specs.Built.{is_rw_create, is_one_name, has_text, is_built, is_built_call};
+ghost use Rattle.session_script.specs.Built.{is_plain_open, is_one_name, has_text, is_built, is_built_call};
 
 use crate::call::{Call, What};
 use crate::words::Words;
 use vfs_names::{Access, How, VPath};
 
-fn is_rw_create(how: &How) -> bool
-    ensures { result ≡ is_rw_create how.now }
+fn is_plain_open(how: &How) -> bool
+    ensures { result ≡ is_plain_open how.now }
 {
-    how.access == Access::Both && how.create && !how.excl && !how.trunc && !how.append
+    how.access != Access::Write && !how.excl && !how.trunc && !how.append
 }
 
 fn is_one_name(path: &VPath) -> bool
@@ -34,7 +34,7 @@ fn is_built_call(text: &[u8], call: &Call) -> bool
     ensures { result ≡ is_built_call text.now call.now }
 {
     match call {
-        Call::Open { path, how, .. } => is_rw_create(how) && is_one_name(path),
+        Call::Open { path, how, .. } => is_plain_open(how) && is_one_name(path),
         Call::Read { .. } | Call::Close { .. } => true,
         Call::Write { .. } => has_text(text),
         _ => false,

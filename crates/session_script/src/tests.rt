@@ -324,7 +324,7 @@ fn scripts_are_read_to_the_first_refused_line(rt: HostRuntime) -> Result<(), Fai
         (b"s1 jump\ntick\n".as_slice(), (1, "verb", 0)),
         (b"s1 open 0 d/a rw create".as_slice(), (1, "unbuilt", 0)),
         (b"s1 open 0 a rw create trunc".as_slice(), (1, "unbuilt", 0)),
-        (b"s1 open 0 a rw".as_slice(), (1, "unbuilt", 0)),
+        (b"s1 open 0 a w".as_slice(), (1, "unbuilt", 0)),
         (b"s2 close 0".as_slice(), (1, "unbuilt", 0)),
         (b"s1 write 0 0 hex:68".as_slice(), (1, "unbuilt", 0)),
         (b"s1 stat /".as_slice(), (1, "unbuilt", 0)),

@@ -1,8 +1,8 @@
-//! The program: runs the script on its standard input over a store and a cache in memory, and writes the transcript.
+//! The program: runs the script on its standard input over a folder and a cache in memory, and writes the transcript.
 #![tactic(auto)]
 
 use cache_memory::MemoryDisk;
-use remote_memory::MemoryRemote;
+use remote_folder::FolderRemote;
 use std::process::ExitCode;
 use std::rt::Env;
 use std::{env, io};
@@ -35,7 +35,7 @@ fn main(rt: HostRuntime) -> ExitCode {
         &words,
         &mut source,
         &mut sink,
-        MemoryRemote::new(alloc),
+        FolderRemote::new(alloc, rt),
         MemoryDisk::new(alloc),
         &mut clock,
         &OpenGate,

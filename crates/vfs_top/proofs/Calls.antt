@@ -1,9 +1,9 @@
 -- The lines that the program can do are calls of the first session.
-use Rattle.std.proofs.Common.{◌≡◌, ℕ, ◌==◌, ◌&&◌, Bool, true, false, List, [], ◌∷◌, eqb-true, refl, subst, sym}
+use Rattle.std.proofs.Common.{◌≡◌, ◌≢◌, ℕ, ◌==◌, ◌&&◌, Bool, true, false, List, [], ◌∷◌, eqb-true, refl, subst, sym}
 use Rattle.vfs_names.specs.declared.calls.Access.{Access}
 use Rattle.vfs_names.specs.declared.calls.Access.TheVariants as access
 use Rattle.vfs_names.specs.declared.calls.How.{How}
-use Rattle.session_script.specs.Built.{is_both, is_built_call, is_rw_create}
+use Rattle.session_script.specs.Built.{may_read, is_built_call, is_plain_open}
 use Rattle.session_script.specs.Script.{AreLines, Does, lines_of}
 use Rattle.session_script.specs.declared.call.Call.{Call}
 use Rattle.session_script.specs.declared.call.Call.TheVariants as call
@@ -22,16 +22,16 @@ right_holds : (a b : Bool) → a && b ≡ true → b ≡ true
 right_holds true b e = e
 right_holds false b e = cc
 
-both_of : (a : Access) → is_both a ≡ true → a ≡ access.Both
-both_of access.Read e = cc
-both_of access.Write e = cc
-both_of access.Both e = refl
+reads_of : (a : Access) → may_read a ≡ true → a ≢ access.Write
+reads_of access.Read e = λ w. cc
+reads_of access.Write e = cc
+reads_of access.Both e = λ w. cc
 
-both_in : (how : How) → is_rw_create how ≡ true → how.access ≡ access.Both
-both_in how e = both_of how.access (left_holds _ _ (left_holds _ _ (left_holds _ _ (left_holds _ _ e))))
+reads_in : (how : How) → is_plain_open how ≡ true → how.access ≢ access.Write
+reads_in how e = reads_of how.access (left_holds _ _ (left_holds _ _ (left_holds _ _ e)))
 
 servable : (text : List ℕ) (c : Call) → is_built_call text c ≡ true → IsServable c
-servable text (call.Open h path how) e = both_in how (left_holds _ _ e)
+servable text (call.Open h path how) e = reads_in how (left_holds _ _ e)
 servable text (call.Read h pos len) e = tt
 servable text (call.Write h pos payload) e = tt
 servable text (call.Size h size) e = cc

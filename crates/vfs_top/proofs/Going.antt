@@ -1,87 +1,163 @@
 -- How a phase goes on from call to call.
-use Rattle.std.proofs.Common.{◌≡◌, ◌∙◌, ℕ, suc, ◌+◌, ◌<◌, ◌≤◌, ◌++◌, List, [], ◌∷◌, length, map, reverse, drop, get_or, add-one, ap, arith, drop-cons, refl, subst, sym}
+use Rattle.std.proofs.Common.{◌≡◌, ◌∙◌, ◌⊎◌, inl, inr, ℕ, zero, suc, ◌+◌, ◌<◌, ◌≤◌, ◌++◌, Option, None, Some, List, [], ◌∷◌, length, map, reverse, take, drop, get_or, add-one, ap, append_assoc, arith, drop-cons, length-append, refl, subst, sym}
 use Rattle.std.proofs.lemmas.Grind.{common_steps}
 use Rattle.std.specs.List.{AllByRecursion}
+use Rattle.std.specs.Prelude.{IsSomeAnd}
+use Rattle.vfs_names.specs.declared.fingerprint.Fingerprint.{Fingerprint}
 use Rattle.vfs_outside.proofs.Told.{later_rose, rose_later}
+use Rattle.vfs_outside.specs.Causes.{Rose}
 use Rattle.vfs_outside.specs.Outside.{Outside}
+use Rattle.vfs_outside.specs.declared.tree.TreeEntry.{TreeEntry}
+use Rattle.session_script.specs.declared.call.Call.{Call}
+use Rattle.session_script.specs.declared.call.Call.TheVariants as call
 use Rattle.session_script.specs.declared.call.Line.{Line}
 use Rattle.session_script.specs.declared.call.What.{What}
 use Rattle.session_script.specs.declared.call.What.TheVariants as what
 use Rattle.session_script.specs.declared.call.CallLine.{CallLine}
 use Rattle.session_text.specs.declared.reply.Record.{Record}
-use Rattle.one_session.specs.Served.{HasRemoteCause, Served, Serves}
+use Rattle.one_session.specs.Causes.{AreGiven, CauseOf, HandsBig, HasOpenCause, HasRemoteCause, IsUnshown, ends_gone}
+use Rattle.one_session.specs.Served.{Served, Serves}
 use Rattle.one_session.specs.State.{State}
+use Rattle.one_session.specs.Tree.{shown}
 use Rattle.one_session.specs.Whole.{IsUpTo}
 use Rattle.vfs_top.specs.Phase.{IsGoing, ServesAsked, line_of, maker_at}
 
--- a cause stays one when the counts rise further
-cause_later : (done : Record) (a b c : Outside) → HasRemoteCause done a b → b.faults ≤ c.faults → b.changes ≤ c.changes → HasRemoteCause done a c
-cause_later done a b c h f g = record {
+take_front : {A : Type 0} (xs ys : List A) (k : ℕ) → k ≤ length xs → take k (xs ++ ys) ≡ take k xs
+take_front [] ys zero le = refl
+take_front [] ys (suc k) le = absurd (omega (arith, le))
+take_front (x ∷ xs) ys zero le = refl
+take_front (x ∷ xs) ys (suc k) le = ap (λ l. x ∷ l) (take_front xs ys k (omega (arith, le)))
+
+-- what was shown before an entry is the same in a longer history
+unshown_more : (tree more : List TreeEntry) (path : List ℕ) (k : ℕ) → IsUnshown tree path k → IsUnshown (tree ++ more) path k
+unshown_more tree more path k u = record {
+  inside = omega (arith, u.inside, length-append tree more);
+  nothing = ap (λ l. shown l path) same ∙ u.nothing;
+  not_gone = ap (λ l. ends_gone (reverse l) path) same ∙ u.not_gone;
+} where
+  same : take k (tree ++ more) ≡ take k tree
+  same = take_front tree more k (omega (arith, u.inside))
+
+some_more : (o : Option ℕ) (tree more : List TreeEntry) (path : List ℕ) → IsSomeAnd o (IsUnshown tree path) → IsSomeAnd o (IsUnshown (tree ++ more) path)
+some_more None tree more path h = h
+some_more (Some k) tree more path h = unshown_more tree more path k h
+
+big_more : (extra handed handed' : List (Fingerprint × List ℕ)) → handed' ≡ extra ++ handed → HandsBig handed → HandsBig handed'
+big_more extra handed handed' e h = record {
+  front = extra ++ h.front;
+  print = h.print;
+  bytes = h.bytes;
+  back = h.back;
+  is = e ∙ ap (λ l. extra ++ l) h.is ∙ sym (append_assoc extra h.front ((h.print, h.bytes) ∷ h.back));
+  big = h.big;
+}
+
+missing_later : (o : Option ℕ) (tree more : List TreeEntry) (path : List ℕ) (x y z : ℕ) → y ≤ z → Rose x y ⊎ IsSomeAnd o (IsUnshown tree path) → Rose x z ⊎ IsSomeAnd o (IsUnshown (tree ++ more) path)
+missing_later o tree more path x y z le (inl h) = inl (rose_later x y z h le)
+missing_later o tree more path x y z le (inr h) = inr (some_more o tree more path h)
+
+later_missing : {A : Type 0} (x y z : ℕ) → x ≤ y → Rose y z ⊎ A → Rose x z ⊎ A
+later_missing x y z le (inl h) = inl (later_rose x y z le h)
+later_missing x y z le (inr h) = inr h
+
+cause_of_later : (asked : Call) (done : Record) (tree more : List TreeEntry) (a b z : Outside) (extra : List (Fingerprint × List ℕ)) → CauseOf asked done tree a b → b.faults ≤ z.faults → b.changes ≤ z.changes → z.handed ≡ extra ++ b.handed → CauseOf asked done (tree ++ more) a z
+cause_of_later (call.Open h path how) done tree more a b z extra cause f g e = record {
+  fault = λ x. rose_later a.faults b.faults z.faults (cause.fault x) f;
+  missing = λ x. missing_later done.tree tree more path a.changes b.changes z.changes g (cause.missing x);
+  big = λ x. big_more extra b.handed z.handed e (cause.big x);
+}
+cause_of_later _ done tree more a b z extra cause f g e = tt
+
+later_cause_of : (asked : Call) (done : Record) (tree : List TreeEntry) (a b z : Outside) → a.faults ≤ b.faults → a.changes ≤ b.changes → CauseOf asked done tree b z → CauseOf asked done tree a z
+later_cause_of (call.Open h path how) done tree a b z f g cause = record {
+  fault = λ x. later_rose a.faults b.faults z.faults f (cause.fault x);
+  missing = λ x. later_missing a.changes b.changes z.changes g (cause.missing x);
+  big = cause.big;
+}
+later_cause_of _ done tree a b z f g cause = tt
+
+handed_twice : (extra more a b z : List (Fingerprint × List ℕ)) → b ≡ more ++ a → z ≡ extra ++ b → z ≡ (extra ++ more) ++ a
+handed_twice extra more a b z e f = f ∙ ap (λ l. extra ++ l) e ∙ sym (append_assoc extra more a)
+
+-- a cause stays one when the counts rise further, more is handed out and the tree grows
+cause_later : (asked : Call) (done : Record) (tree more : List TreeEntry) (a b z : Outside) (extra : List (Fingerprint × List ℕ)) → HasRemoteCause asked done tree a b → b.faults ≤ z.faults → b.changes ≤ z.changes → z.handed ≡ extra ++ b.handed
+    → HasRemoteCause asked done (tree ++ more) a z
+cause_later asked done tree more a b z extra h f g e = record {
   faults = omega (arith, h.faults, f);
   changes = omega (arith, h.changes, g);
-  fault = λ e. rose_later a.faults b.faults c.faults (h.fault e) f;
-  missing = λ e. rose_later a.changes b.changes c.changes (h.missing e) g;
+  more = extra ++ h.more;
+  handed = handed_twice extra h.more a.handed b.handed z.handed h.handed e;
+  cause = cause_of_later asked done tree more a b z extra h.cause f g e;
 }
 
 -- and when they rose before
-later_cause : (done : Record) (a b c : Outside) → a.faults ≤ b.faults → a.changes ≤ b.changes → HasRemoteCause done b c → HasRemoteCause done a c
-later_cause done a b c f g h = record {
+pub later_cause : (asked : Call) (done : Record) (tree : List TreeEntry) (a b z : Outside) (more : List (Fingerprint × List ℕ)) → a.faults ≤ b.faults → a.changes ≤ b.changes → b.handed ≡ more ++ a.handed → HasRemoteCause asked done tree b z
+    → HasRemoteCause asked done tree a z
+later_cause asked done tree a b z more f g e h = record {
   faults = omega (arith, h.faults, f);
   changes = omega (arith, h.changes, g);
-  fault = λ e. later_rose a.faults b.faults c.faults f (h.fault e);
-  missing = λ e. later_rose a.changes b.changes c.changes g (h.missing e);
+  more = h.more ++ more;
+  handed = handed_twice h.more more a.handed b.handed z.handed e h.handed;
+  cause = later_cause_of asked done tree a b z f g h.cause;
 }
 
-causes_later : (served : List Served) (a b c : Outside) → AllByRecursion (λ (d : Served). HasRemoteCause d.done a b) served → b.faults ≤ c.faults → b.changes ≤ c.changes
-    → AllByRecursion (λ (d : Served). HasRemoteCause d.done a c) served
-causes_later [] a b c h f g = tt
-causes_later (d ∷ served) a b c h f g = (cause_later d.done a b c h.0 f g, causes_later served a b c h.1 f g)
+causes_later : (served : List Served) (tree more : List TreeEntry) (a b z : Outside) (extra : List (Fingerprint × List ℕ)) → AllByRecursion (λ (d : Served). HasRemoteCause d.line.call d.done tree a b) served → b.faults ≤ z.faults → b.changes ≤ z.changes
+    → z.handed ≡ extra ++ b.handed → AllByRecursion (λ (d : Served). HasRemoteCause d.line.call d.done (tree ++ more) a z) served
+causes_later [] tree more a b z extra h f g e = tt
+causes_later (d ∷ served) tree more a b z extra h f g e = (cause_later d.line.call d.done tree more a b z extra h.0 f g e, causes_later served tree more a b z extra h.1 f g e)
 
 lines_more : (call : CallLine) (d : Served) (served : List Served) (line : Line) (left lines : List Line) → line_of d ≡ line
     → map line_of (reverse served) ++ line ∷ left ≡ lines → map line_of (reverse (d ∷ served)) ++ left ≡ lines
 lines_more call d served line left lines e h = grind (arith, common_steps, e, h)
 
-serve_call : (moment : ℕ) (a b c : Outside) (lines left : List Line) (line : ℕ) (call : CallLine) (s t : State) (done : Record)
-    → IsGoing moment a b lines (record { line = line; what = what.Call call } ∷ left) s → Serves 1 (maker_at moment) call done s t → HasRemoteCause done b c → IsUpTo (maker_at moment) t.files → s.room ≤ t.room + 1
-    → IsGoing moment a c lines left t
-serve_call moment a b c lines left line call s t done p q h u r =
-    let d : Served = record { by = maker_at moment; line = call; done = done } in
-    let e : line_of d ≡ record { line = line; what = what.Call call } = ap (λ n. record { line = n; what = what.Call call }) (sym p.calls.0.0) in
+serve_call : (tells : Type 0) (moment : ℕ) (a b z : Outside) (lines left : List Line) (line : ℕ) (c : CallLine) (s t : State) (done : Record)
+    → IsGoing tells moment a b lines (record { line = line; what = what.Call c } ∷ left) s → Serves 1 tells b.handed z.handed (maker_at moment) c done s t → HasRemoteCause c.call done t.tree b z → AreGiven tells z.handed t.pairs
+    → IsUpTo (maker_at moment) t.files → s.room ≤ t.room + 1 → IsGoing tells moment a z lines left t
+serve_call tells moment a b z lines left line c s t done p q h given u r =
+    let d : Served = record { by = maker_at moment; line = c; done = done } in
+    let e : line_of d ≡ record { line = line; what = what.Call c } = ap (λ n. record { line = n; what = what.Call c }) (sym p.calls.0.0) in
     record {
       served = d ∷ p.served;
       fits = q.fits p.served p.fits;
+      given = given;
       limit = q.limit ∙ p.limit;
       later = u;
-      asked = lines_more call d p.served (record { line = line; what = what.Call call }) left lines e p.asked;
+      asked = lines_more c d p.served (record { line = line; what = what.Call c }) left lines e p.asked;
       makers = (refl, p.makers);
-      causes = (later_cause done a b c p.faults p.changes h, causes_later p.served a b c p.causes h.faults h.changes);
+      causes = (
+        later_cause c.call done t.tree a b z p.more p.faults p.changes p.handed h,
+        subst (λ tree. AllByRecursion (λ (d : Served). HasRemoteCause d.line.call d.done tree a z) p.served) (sym q.grew) (causes_later p.served s.tree q.more a b z h.more p.causes h.faults h.changes h.handed),
+      );
       faults = omega (arith, p.faults, h.faults);
       changes = omega (arith, p.changes, h.changes);
+      more = h.more ++ p.more;
+      handed = handed_twice h.more p.more a.handed b.handed z.handed p.handed h.handed;
       calls = p.calls.1;
       room = omega (arith, p.room, r);
     }
 
 -- one call more was served
-pub next_call : (moment : ℕ) (a b c : Outside) (lines left : List Line) (line : Line) (s t : State)
-    → IsGoing moment a b lines (line ∷ left) s → ServesAsked (maker_at moment) line.what s t b c → IsUpTo (maker_at moment) t.files → s.room ≤ t.room + 1 → IsGoing moment a c lines left t
-next_call moment a b c lines left line s t p q u r = next moment a b c lines left line.line line.what s t p q u r
+pub next_call : (tells : Type 0) (moment : ℕ) (a b z : Outside) (lines left : List Line) (line : Line) (s t : State)
+    → IsGoing tells moment a b lines (line ∷ left) s → ServesAsked tells (maker_at moment) line.what s t b z → AreGiven tells z.handed t.pairs → IsUpTo (maker_at moment) t.files → s.room ≤ t.room + 1 → IsGoing tells moment a z lines left t
+next_call tells moment a b z lines left line s t p q v u r = next tells moment a b z lines left line.line line.what s t p q v u r
   where
-    next : (moment : ℕ) (a b c : Outside) (lines left : List Line) (n : ℕ) (asked : What) (s t : State)
-        → IsGoing moment a b lines (record { line = n; what = asked } ∷ left) s → ServesAsked (maker_at moment) asked s t b c → IsUpTo (maker_at moment) t.files → s.room ≤ t.room + 1 → IsGoing moment a c lines left t
-    next moment a b c lines left n (what.Call call) s t p q u r = serve_call moment a b c lines left n call s t q.0 p q.1 q.2 u r
-    next moment a b c lines left n (what.Advance ms) s t p q u r = absurd q
-    next moment a b c lines left n what.Tick s t p q u r = absurd q
-    next moment a b c lines left n what.Clean s t p q u r = absurd q
-    next moment a b c lines left n what.Poll s t p q u r = absurd q
-    next moment a b c lines left n what.Join s t p q u r = absurd q
-    next moment a b c lines left n what.Restart s t p q u r = absurd q
+    next : (tells : Type 0) (moment : ℕ) (a b z : Outside) (lines left : List Line) (n : ℕ) (asked : What) (s t : State)
+        → IsGoing tells moment a b lines (record { line = n; what = asked } ∷ left) s → ServesAsked tells (maker_at moment) asked s t b z → AreGiven tells z.handed t.pairs → IsUpTo (maker_at moment) t.files → s.room ≤ t.room + 1
+        → IsGoing tells moment a z lines left t
+    next tells moment a b z lines left n (what.Call c) s t p q v u r = serve_call tells moment a b z lines left n c s t q.0 p q.1 q.2 v u r
+    next tells moment a b z lines left n (what.Advance ms) s t p q v u r = absurd q
+    next tells moment a b z lines left n what.Tick s t p q v u r = absurd q
+    next tells moment a b z lines left n what.Clean s t p q v u r = absurd q
+    next tells moment a b z lines left n what.Poll s t p q v u r = absurd q
+    next tells moment a b z lines left n what.Join s t p q v u r = absurd q
+    next tells moment a b z lines left n what.Restart s t p q v u r = absurd q
 
 -- the call of the line at an index was served
-pub next_at : (moment : ℕ) (a b c : Outside) (lines : List Line) (i : ℕ) (line : Line) (s t : State) → i < length lines → line ≡ get_or lines i line
-    → IsGoing moment a b lines (drop i lines) s → ServesAsked (maker_at moment) line.what s t b c → IsUpTo (maker_at moment) t.files → s.room ≤ t.room + 1 → IsGoing moment a c lines (drop (i + 1) lines) t
-next_at moment a b c lines i line s t inside is p q u r =
-    next_call moment a b c lines (drop (i + 1) lines) line s t
-    (subst (λ left. IsGoing moment a b lines left s) (at_index lines i line inside is) p) q u r
+pub next_at : (tells : Type 0) (moment : ℕ) (a b z : Outside) (lines : List Line) (i : ℕ) (line : Line) (s t : State) → i < length lines → line ≡ get_or lines i line
+    → IsGoing tells moment a b lines (drop i lines) s → ServesAsked tells (maker_at moment) line.what s t b z → AreGiven tells z.handed t.pairs → IsUpTo (maker_at moment) t.files → s.room ≤ t.room + 1 → IsGoing tells moment a z lines (drop (i + 1) lines) t
+next_at tells moment a b z lines i line s t inside is p q v u r =
+    next_call tells moment a b z lines (drop (i + 1) lines) line s t
+    (subst (λ left. IsGoing tells moment a b lines left s) (at_index lines i line inside is) p) q v u r
   where
     at_index : (lines : List Line) (i : ℕ) (line : Line) → i < length lines → line ≡ get_or lines i line → drop i lines ≡ line ∷ drop (i + 1) lines
     at_index lines i line inside is = rw (add-one, drop-cons lines i line) (ap (λ x. x ∷ drop (suc i) lines) (sym is))

@@ -10,6 +10,7 @@ use Rattle.vfs_top.specs.Script.{IsReady}
 use Rattle.vfs_top.specs.Stop.{Stops, no_memory_text, status_of, stop_text}
 use Rattle.vfs_top.specs.Transcript.{replies_of, transcript}
 use Rattle.vfs_top.specs.declared.stop.Stop.{Stop}
+use Rattle.vfs_top.specs.declared.stop.Stop.TheVariants as stops
 
 -- what the things outside tell at a moment: what the source has left, what the sink holds, how often each of the two
 -- failed, the clock's last answer, and the remote's counts
@@ -30,17 +31,17 @@ abbrev pub printed : Epoch → List ℕ
 printed e = transcript ((replies_of e, e) ∷ [])
 
 -- all lines were done in one epoch, and the whole transcript was written
-pub record DoesAll (written written' : Option (List ℕ)) (before after : ℕ) (old new : Outside) (script : List Line) (epochs : List Epoch) : Type 0 where
+pub record DoesAll (tells : Type 0) (written written' : Option (List ℕ)) (before after : ℕ) (old new : Outside) (script : List Line) (epochs : List Epoch) : Type 0 where
   pub epoch : Epoch
   pub kept : epochs ≡ epoch ∷ []
-  pub phase : IsPhase before after old new script epoch
+  pub phase : IsPhase tells before after old new script epoch
   pub text : Appends written written' (printed epoch)
 
 -- a front of the lines was done, and a front of their transcript was written
-pub record DoesSome (written written' : Option (List ℕ)) (before after : ℕ) (old new : Outside) (script : List Line) (epochs : List Epoch) : Type 0 where
+pub record DoesSome (tells : Type 0) (written written' : Option (List ℕ)) (before after : ℕ) (old new : Outside) (script : List Line) (epochs : List Epoch) : Type 0 where
   pub epoch : Epoch
   pub kept : epochs ≡ epoch ∷ []
-  pub did : DoesFront before after old new script epoch
+  pub did : DoesFront tells before after old new script epoch
   pub text : AppendsFront written written' (printed epoch)
 
 -- nothing was done or written
@@ -49,43 +50,76 @@ pub record DoesNothing (written written' : Option (List ℕ)) (epochs : List Epo
   pub same : written' ≡ written
 
 -- the words are those of a run, the source was read to its end, and its script was done
-pub record Done (words : List (List ℕ)) (old new : Told) (epochs : List Epoch) : Type 0 where
+pub record Done (tells : Type 0) (words : List (List ℕ)) (old new : Told) (epochs : List Epoch) : Type 0 where
   pub script : List Line
   pub ready : IsReady words old.left new.left script
-  pub all : DoesAll old.written new.written old.moment new.moment old.remote new.remote script epochs
+  pub all : DoesAll tells old.written new.written old.moment new.moment old.remote new.remote script epochs
+
+-- the script was read, and then the remote couldn't be attached
+pub record FailsToAttach (words : List (List ℕ)) (old new : Told) (stop : Stop) : Type 0 where
+  pub is : stop ≡ stops.Remote
+  pub script : List Line
+  pub ready : IsReady words old.left new.left script
+  pub rose : Rose old.remote.faults new.remote.faults
+
+-- why no call was run
+abbrev pub IsStop : List (List ℕ) → Told → Told → Stop → Type 0
+IsStop words old new stop = Stops words old.left new.left old.source_faults new.source_faults stop ⊎ FailsToAttach words old new stop
 
 -- no call was run, and the reason was written
 pub record Stopped (words : List (List ℕ)) (old new : Told) (status : ℕ) (epochs : List Epoch) : Type 0 where
   pub stop : Stop
   pub ends : status ≡ status_of stop
-  pub cause : Stops words old.left new.left old.source_faults new.source_faults stop
+  pub cause : IsStop words old new stop
   pub text : Appends old.written new.written (stop_text stop)
   pub none : epochs ≡ []
 
 -- a front of the reason why no call was run was written
 pub record BreaksStop (words : List (List ℕ)) (old new : Told) (epochs : List Epoch) : Type 0 where
   pub stop : Stop
-  pub cause : Stops words old.left new.left old.source_faults new.source_faults stop
+  pub cause : IsStop words old new stop
   pub text : AppendsFront old.written new.written (stop_text stop)
   pub none : epochs ≡ []
 
 -- a front of the script was done, and a front of its transcript was written
-pub record BreaksRun (words : List (List ℕ)) (old new : Told) (epochs : List Epoch) : Type 0 where
+pub record BreaksRun (tells : Type 0) (words : List (List ℕ)) (old new : Told) (epochs : List Epoch) : Type 0 where
   pub script : List Line
   pub ready : IsReady words old.left new.left script
-  pub some : DoesSome old.written new.written old.moment new.moment old.remote new.remote script epochs
+  pub some : DoesSome tells old.written new.written old.moment new.moment old.remote new.remote script epochs
 
 -- a front of what would have been written was written, and each reply in it stands in the epochs
-abbrev pub Breaks : List (List ℕ) → Told → Told → List Epoch → Type 0
-Breaks words old new epochs = BreaksStop words old new epochs ⊎ BreaksRun words old new epochs
+abbrev pub Breaks : Type 0 → List (List ℕ) → Told → Told → List Epoch → Type 0
+Breaks tells words old new epochs = BreaksStop words old new epochs ⊎ BreaksRun tells words old new epochs
 
 -- the sink failed
-pub record Broken (words : List (List ℕ)) (old new : Told) (epochs : List Epoch) : Type 0 where
+pub record Broken (tells : Type 0) (words : List (List ℕ)) (old new : Told) (epochs : List Epoch) : Type 0 where
   pub rose : Rose old.sink_faults new.sink_faults
-  pub front : Breaks words old new epochs
+  pub front : Breaks tells words old new epochs
 
 -- memory was wanting: behind what was written till then comes a front of the lines that say so
-pub record Starved (words : List (List ℕ)) (old new : Told) (epochs : List Epoch) : Type 0 where
+pub record Starved (tells : Type 0) (words : List (List ℕ)) (old new : Told) (epochs : List Epoch) : Type 0 where
   pub between : Option (List ℕ)
-  pub front : Breaks words old (record new { written = between }) epochs
+  pub front : Breaks tells words old (record new { written = between }) epochs
   pub text : AppendsFront between new.written no_memory_text
+
+-- the remote couldn't be attached, and this was written
+pub record DoesStop (written written' : Option (List ℕ)) (old new : Outside) (epochs : List Epoch) : Type 0 where
+  pub rose : Rose old.faults new.faults
+  pub text : Appends written written' (stop_text stops.Remote)
+  pub none : epochs ≡ []
+
+-- or a front of it
+pub record BreaksAttach (written written' : Option (List ℕ)) (old new : Outside) (epochs : List Epoch) : Type 0 where
+  pub rose : Rose old.faults new.faults
+  pub text : AppendsFront written written' (stop_text stops.Remote)
+  pub none : epochs ≡ []
+
+-- a front of what would have been written was written, once the script was read
+abbrev pub BreaksAttached : Type 0 → Option (List ℕ) → Option (List ℕ) → ℕ → ℕ → Outside → Outside → List Line → List Epoch → Type 0
+BreaksAttached tells written written' before after old new script epochs =
+    BreaksAttach written written' old new epochs ⊎ DoesSome tells written written' before after old new script epochs
+
+-- memory was wanting, once the script was read
+abbrev pub StarvesAttached : Type 0 → Option (List ℕ) → Option (List ℕ) → ℕ → ℕ → Outside → Outside → List Line → List Epoch → Type 0
+StarvesAttached tells written written' before after old new script epochs =
+    DoesNothing written written' epochs ⊎ BreaksAttached tells written written' before after old new script epochs

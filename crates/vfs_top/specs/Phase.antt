@@ -1,6 +1,7 @@
 -- The calls of a phase, and what they left.
 use Rattle.std.specs.Prelude.{◌≡◌, ℕ, ◌≤◌, false, List, [], ◌∷◌, ◌++◌, map, reverse, length}
 use Rattle.std.specs.List.{AllByRecursion}
+use Rattle.vfs_names.specs.declared.fingerprint.Fingerprint.{Fingerprint}
 use Rattle.vfs_names.specs.declared.who.Actor.TheVariants.{Session}
 use Rattle.vfs_names.specs.declared.who.By.{By}
 use Rattle.vfs_outside.specs.Outside.{Outside}
@@ -8,7 +9,9 @@ use Rattle.session_script.specs.declared.call.Line.{Line}
 use Rattle.session_script.specs.declared.call.What.{What}
 use Rattle.session_script.specs.declared.call.What.TheVariants as what
 use Rattle.session_text.specs.declared.reply.Record.{Record}
-use Rattle.one_session.specs.Served.{Fits, HasRemoteCause, IsServable, IsServed, Served, Serves}
+use Rattle.memory_item.specs.Known.{Holds}
+use Rattle.one_session.specs.Causes.{AreGiven, HasRemoteCause}
+use Rattle.one_session.specs.Served.{Fits, IsServable, IsServed, Served, Serves}
 use Rattle.one_session.specs.State.{State}
 use Rattle.one_session.specs.Whole.{IsUpTo, IsWhole}
 use Rattle.vfs_top.specs.Epoch.{Epoch}
@@ -29,8 +32,9 @@ abbrev pub history_limit : ℕ
 history_limit = 1048576
 
 -- What a phase of these lines left: they are calls of the first session, which were made at one moment between the
--- clock's two answers, the records and the histories are those of the calls, and a refusal for the remote has its cause.
-pub record IsPhase (before after : ℕ) (old new : Outside) (lines : List Line) (e : Epoch) : Type 0 where
+-- clock's two answers, the records and the histories are those of the calls, by the contents that hold what the remote
+-- handed out, and a refusal for the remote has its cause.
+pub record IsPhase (tells : Type 0) (before after : ℕ) (old new : Outside) (lines : List Line) (e : Epoch) : Type 0 where
   pub served : List Served
   pub moment : ℕ
   pub no_sooner : before ≤ moment
@@ -38,8 +42,8 @@ pub record IsPhase (before after : ℕ) (old new : Outside) (lines : List Line) 
   pub makers : AllByRecursion (λ (d : Served). d.by ≡ maker_at moment) served
   pub asked : map line_of (reverse served) ≡ lines
   pub recorded : e.records ≡ map record_of (reverse served)
-  pub causes : AllByRecursion (λ (d : Served). HasRemoteCause d.done old new) served
-  pub matching : IsServed 1 history_limit served e.tree e.files
+  pub causes : AllByRecursion (λ (d : Served). HasRemoteCause d.line.call d.done e.tree old new) served
+  pub matching : IsServed 1 (Holds tells new.handed) history_limit served e.tree e.files
   pub whole : IsWhole 1 e.tree e.files
 
 -- line n asks for a call that the first session can be served
@@ -57,32 +61,35 @@ AreCalls [] = Unit {0}
 AreCalls (line ∷ lines) = AsksCall line.line line.what × AreCalls lines
 
 -- the call that was asked for was served
-abbrev pub ServesAsked : By → What → State → State → Outside → Outside → Type 0
-ServesAsked by (what.Call c) s t old new = (done : Record) × Serves 1 by c done s t × HasRemoteCause done old new
-ServesAsked by (what.Advance ms) s t old new = ⊥
-ServesAsked by what.Tick s t old new = ⊥
-ServesAsked by what.Clean s t old new = ⊥
-ServesAsked by what.Poll s t old new = ⊥
-ServesAsked by what.Join s t old new = ⊥
-ServesAsked by what.Restart s t old new = ⊥
+abbrev pub ServesAsked : Type 0 → By → What → State → State → Outside → Outside → Type 0
+ServesAsked tells by (what.Call c) s t old new = (done : Record) × Serves 1 tells old.handed new.handed by c done s t × HasRemoteCause c.call done t.tree old new
+ServesAsked tells by (what.Advance ms) s t old new = ⊥
+ServesAsked tells by what.Tick s t old new = ⊥
+ServesAsked tells by what.Clean s t old new = ⊥
+ServesAsked tells by what.Poll s t old new = ⊥
+ServesAsked tells by what.Join s t old new = ⊥
+ServesAsked tells by what.Restart s t old new = ⊥
 
 -- A phase so far: calls of these lines were served, the newest first, others are left, and there is room for these.
-pub record IsGoing (moment : ℕ) (old new : Outside) (lines left : List Line) (s : State) : Type 0 where
+pub record IsGoing (tells : Type 0) (moment : ℕ) (old new : Outside) (lines left : List Line) (s : State) : Type 0 where
   pub served : List Served
-  pub fits : Fits 1 served s
+  pub fits : Fits 1 (Holds tells new.handed) served s
+  pub given : AreGiven tells new.handed s.pairs
   pub limit : s.limit ≡ history_limit
   pub later : IsUpTo (maker_at moment) s.files
   pub asked : map line_of (reverse served) ++ left ≡ lines
   pub makers : AllByRecursion (λ (d : Served). d.by ≡ maker_at moment) served
-  pub causes : AllByRecursion (λ (d : Served). HasRemoteCause d.done old new) served
+  pub causes : AllByRecursion (λ (d : Served). HasRemoteCause d.line.call d.done s.tree old new) served
   pub faults : old.faults ≤ new.faults
   pub changes : old.changes ≤ new.changes
+  pub more : List (Fingerprint × List ℕ)
+  pub handed : new.handed ≡ more ++ old.handed
   pub calls : AreCalls left
   pub room : length left ≤ s.room
 
 -- a front of the lines was done
-pub record DoesFront (before after : ℕ) (old new : Outside) (script : List Line) (e : Epoch) : Type 0 where
+pub record DoesFront (tells : Type 0) (before after : ℕ) (old new : Outside) (script : List Line) (e : Epoch) : Type 0 where
   pub lines : List Line
   pub others : List Line
   pub front : script ≡ lines ++ others
-  pub phase : IsPhase before after old new lines e
+  pub phase : IsPhase tells before after old new lines e

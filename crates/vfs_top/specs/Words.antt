@@ -17,3 +17,10 @@ tail_of_row = codes "--vfs-cache-mode" ∷ codes "full" ∷ codes "--worker-turn
 abbrev pub IsRow : List (List ℕ) → Type 0
 IsRow words = (remote : List ℕ) × (cache : List ℕ) × IsDir remote × IsDir cache
     × (words ≡ codes "run" ∷ codes "--remote" ∷ remote ∷ codes "--cache" ∷ cache ∷ tail_of_row)
+
+-- the third word names the remote
+abbrev pub NamesRemote : List (List ℕ) → List ℕ → Type 0
+NamesRemote [] name = ⊥
+NamesRemote (run ∷ []) name = ⊥
+NamesRemote (run ∷ option ∷ []) name = ⊥
+NamesRemote (run ∷ option ∷ word ∷ words) name = name ≡ word

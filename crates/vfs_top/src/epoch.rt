@@ -1,5 +1,7 @@
 ghost use Rattle.std.specs.Prelude.{◌≡◌, ◌≤◌, ◌++◌, [], ℕ, List, OnOk, length};
 ghost use Rattle.session_script.specs.declared.call.Line.{Line};
+ghost use Rattle.vfs_names.specs.declared.fingerprint.Fingerprint.{Fingerprint};
+ghost use Rattle.memory_item.specs.Known.{Holds};
 ghost use Rattle.one_session.specs.Served.{Fits};
 ghost use Rattle.vfs_top.specs.Ended.{printed};
 ghost use Rattle.vfs_top.specs.Epoch.{epoch_of};
@@ -23,21 +25,22 @@ pub struct Ran {
 /// Does the lines of a script. Where the sink fails at the start, no call is run.
 pub fn run_epoch<K: Sink, R: Remote, C: Clock, G: Gate>(
     alloc: Global,
-    session: OneSession,
+    session: OneSession<R::Object>,
     sink: &mut K,
     remote: &mut R,
     clock: &mut C,
     lines: &[Line],
     gate: &G,
 ) -> Ran
-    requires new { Fits 1 [] session }
+    requires new { (handed : List (Fingerprint × List ℕ)) → Fits 1 (Holds R.Object.tells handed) [] session }
+    requires given { session.pairs ≡ [] }
     requires limit { session.limit ≡ history_limit }
     requires none { session.files ≡ [] }
     requires calls { AreCalls lines.now }
     requires room { length lines.now ≤ session.room }
-    ensures done { OnOk result.wrote (IsPhase (C.moment clock.old) (C.moment clock.new)
+    ensures done { OnOk result.wrote (IsPhase R.Object.tells (C.moment clock.old) (C.moment clock.new)
         (R.outside remote.old) (R.outside remote.new) lines.now (epoch_of result.log)) }
-    ensures front { DoesFront (C.moment clock.old) (C.moment clock.new)
+    ensures front { DoesFront R.Object.tells (C.moment clock.old) (C.moment clock.new)
         (R.outside remote.old) (R.outside remote.new) lines.now (epoch_of result.log) }
     ensures text { Writes (K.written sink.old) (K.written sink.new) (K.faults sink.old) (K.faults sink.new)
         (printed (epoch_of result.log)) result.wrote }
@@ -58,18 +61,19 @@ pub fn run_epoch<K: Sink, R: Remote, C: Clock, G: Gate>(
 /// Serves the calls of the lines at the moment that the clock tells.
 fn run_phase<R: Remote, C: Clock, G: Gate>(
     alloc: Global,
-    session: OneSession,
+    session: OneSession<R::Object>,
     remote: &mut R,
     clock: &mut C,
     lines: &[Line],
     gate: &G,
 ) -> EpochLog
-    requires new { Fits 1 [] session }
+    requires new { (handed : List (Fingerprint × List ℕ)) → Fits 1 (Holds R.Object.tells handed) [] session }
+    requires given { session.pairs ≡ [] }
     requires limit { session.limit ≡ history_limit }
     requires none { session.files ≡ [] }
     requires calls { AreCalls lines.now }
     requires room { length lines.now ≤ session.room }
-    ensures { IsPhase (C.moment clock.old) (C.moment clock.new) (R.outside remote.old) (R.outside remote.new)
+    ensures { IsPhase R.Object.tells (C.moment clock.old) (C.moment clock.new) (R.outside remote.old) (R.outside remote.new)
         lines.now (epoch_of result) }
 {
     let mut session = session;

@@ -1,17 +1,21 @@
 ghost use Rattle.std.specs.Prelude.{◌≡◌, ◌≢◌, [], map, string_bytes};
 ghost use Rattle.std.specs.Io.KnownBytes.{Appends};
 ghost use Rattle.vfs_outside.specs.Causes.{AppendsFront, Rose};
-ghost use Rattle.vfs_top.specs.Ended.{Breaks, Broken, Done, Starved, Stopped, told};
+ghost use Rattle.vfs_top.specs.Ended.{Breaks, BreaksAttached, Broken, DoesAll, DoesStop, Done, Starved, StarvesAttached, Stopped, told};
 ghost use Rattle.vfs_top.specs.Epoch.{epoch_of};
+ghost use Rattle.vfs_top.specs.Phase.{AreCalls};
 ghost use Rattle.vfs_top.specs.Stop.{status_of, stop_text};
+ghost use Rattle.vfs_top.specs.Words.{IsRow};
 
 use crate::prepare::prepare;
 use crate::script::{Kept, no_memory, run_script};
 use crate::stop::Stop;
+use crate::words::remote_name;
 use crate::write::{Unwritten, write_no_memory, write_stop};
 use one_session::EpochLog;
+use session_script::Line;
 use std::alloc::Global;
-use vfs_outside::{CacheDisk, Clock, Gate, Remote, Sink, Source};
+use vfs_outside::{CacheDisk, Clock, Gate, Remote, RemoteError, Sink, Source};
 
 /// How a run ended: the status that the program ends with, the devices, and what was kept of each epoch, also where
 /// the sink failed.
@@ -36,7 +40,7 @@ pub fn run<S: Source, K: Sink, R: Remote, D: CacheDisk, C: Clock, G: Gate>(
     clock: &mut C,
     gate: &G,
 ) -> Ended<R, D>
-    ensures done { result.status ≡ 0 → Done (map string_bytes words.now)
+    ensures done { result.status ≡ 0 → Done R.Object.tells (map string_bytes words.now)
         (told (S.left source.old) (S.faults source.old) (K.written sink.old) (K.faults sink.old)
         (C.moment clock.old) (R.outside remote))
         (told (S.left source.new) (S.faults source.new) (K.written sink.new) (K.faults sink.new)
@@ -49,13 +53,13 @@ pub fn run<S: Source, K: Sink, R: Remote, D: CacheDisk, C: Clock, G: Gate>(
         (told (S.left source.new) (S.faults source.new) (K.written sink.new) (K.faults sink.new)
         (C.moment clock.new) (R.outside result.remote))
         result.status (map epoch_of result.epochs.items) }
-    ensures broken { result.status ≡ 5 → Broken (map string_bytes words.now)
+    ensures broken { result.status ≡ 5 → Broken R.Object.tells (map string_bytes words.now)
         (told (S.left source.old) (S.faults source.old) (K.written sink.old) (K.faults sink.old)
         (C.moment clock.old) (R.outside remote))
         (told (S.left source.new) (S.faults source.new) (K.written sink.new) (K.faults sink.new)
         (C.moment clock.new) (R.outside result.remote))
         (map epoch_of result.epochs.items) }
-    ensures starved { result.status ≡ 8 → Starved (map string_bytes words.now)
+    ensures starved { result.status ≡ 8 → Starved R.Object.tells (map string_bytes words.now)
         (told (S.left source.old) (S.faults source.old) (K.written sink.old) (K.faults sink.old)
         (C.moment clock.old) (R.outside remote))
         (told (S.left source.new) (S.faults source.new) (K.written sink.new) (K.faults sink.new)
@@ -82,7 +86,7 @@ pub fn run<S: Source, K: Sink, R: Remote, D: CacheDisk, C: Clock, G: Gate>(
 }
 
 /// Does all but to write that memory was wanting.
-#[tactic(auto, using(crate::proofs::Breaking::starved_run, crate::proofs::Breaking::starved_stop))]
+#[tactic(auto, using(crate::proofs::Breaking::broken_run, crate::proofs::Breaking::starved_run, crate::proofs::Breaking::starved_stop))]
 fn run_words<S: Source, K: Sink, R: Remote, C: Clock, G: Gate>(
     alloc: Global,
     words: &[String],
@@ -92,7 +96,7 @@ fn run_words<S: Source, K: Sink, R: Remote, C: Clock, G: Gate>(
     clock: &mut C,
     gate: &G,
 ) -> Kept
-    ensures done { result.status ≡ 0 → Done (map string_bytes words.now)
+    ensures done { result.status ≡ 0 → Done R.Object.tells (map string_bytes words.now)
         (told (S.left source.old) (S.faults source.old) (K.written sink.old) (K.faults sink.old)
         (C.moment clock.old) (R.outside remote.old))
         (told (S.left source.new) (S.faults source.new) (K.written sink.new) (K.faults sink.new)
@@ -105,13 +109,13 @@ fn run_words<S: Source, K: Sink, R: Remote, C: Clock, G: Gate>(
         (told (S.left source.new) (S.faults source.new) (K.written sink.new) (K.faults sink.new)
         (C.moment clock.new) (R.outside remote.new))
         result.status (map epoch_of result.epochs.items) }
-    ensures broken { result.status ≡ 5 → Broken (map string_bytes words.now)
+    ensures broken { result.status ≡ 5 → Broken R.Object.tells (map string_bytes words.now)
         (told (S.left source.old) (S.faults source.old) (K.written sink.old) (K.faults sink.old)
         (C.moment clock.old) (R.outside remote.old))
         (told (S.left source.new) (S.faults source.new) (K.written sink.new) (K.faults sink.new)
         (C.moment clock.new) (R.outside remote.new))
         (map epoch_of result.epochs.items) }
-    ensures starved { result.status ≡ 8 → Breaks (map string_bytes words.now)
+    ensures starved { result.status ≡ 8 → Breaks R.Object.tells (map string_bytes words.now)
         (told (S.left source.old) (S.faults source.old) (K.written sink.old) (K.faults sink.old)
         (C.moment clock.old) (R.outside remote.old))
         (told (S.left source.new) (S.faults source.new) (K.written sink.new) (K.faults sink.new)
@@ -119,9 +123,45 @@ fn run_words<S: Source, K: Sink, R: Remote, C: Clock, G: Gate>(
         (map epoch_of result.epochs.items) }
 {
     match prepare(alloc, words, source) {
-        Ok(script) => run_script(alloc, sink, remote, clock, script.lines(), gate),
+        Ok(script) => attach(alloc, words, sink, remote, clock, script.lines(), gate),
         Err(Stop::NoMemory) => no_memory(alloc),
         Err(stop) => run_stop(alloc, sink, stop),
+    }
+}
+
+/// Attaches the remote, and does the lines of a script.
+fn attach<K: Sink, R: Remote, C: Clock, G: Gate>(
+    alloc: Global,
+    words: &[String],
+    sink: &mut K,
+    remote: &mut R,
+    clock: &mut C,
+    lines: &[Line],
+    gate: &G,
+) -> Kept
+    requires row { IsRow (map string_bytes words.now) }
+    requires calls { AreCalls lines.now }
+    ensures all { result.status ≡ 0 → DoesAll R.Object.tells (K.written sink.old) (K.written sink.new)
+        (C.moment clock.old) (C.moment clock.new) (R.outside remote.old) (R.outside remote.new)
+        lines.now (map epoch_of result.epochs.items) }
+    ensures failed { result.status ≡ 6 → DoesStop (K.written sink.old) (K.written sink.new)
+        (R.outside remote.old) (R.outside remote.new) (map epoch_of result.epochs.items) }
+    ensures some { result.status ≡ 5 → BreaksAttached R.Object.tells (K.written sink.old) (K.written sink.new)
+        (C.moment clock.old) (C.moment clock.new) (R.outside remote.old) (R.outside remote.new)
+        lines.now (map epoch_of result.epochs.items) }
+    ensures starved { result.status ≡ 8 → StarvesAttached R.Object.tells (K.written sink.old) (K.written sink.new)
+        (C.moment clock.old) (C.moment clock.new) (R.outside remote.old) (R.outside remote.new)
+        lines.now (map epoch_of result.epochs.items) }
+    ensures rose { result.status ≡ 5 → Rose (K.faults sink.old) (K.faults sink.new) }
+    ensures ends { result.status ≢ 0 → result.status ≢ 5 → result.status ≢ 6 → result.status ≡ 8 }
+{
+    match remote.attach(remote_name(words)) {
+        Ok(()) => run_script(alloc, sink, remote, clock, lines, gate),
+        Err(RemoteError::Failed) => run_stop(alloc, sink, Stop::Remote),
+        Err(RemoteError::NoMemory) => no_memory(alloc),
+        Err(RemoteError::Missing) => unreachable!(),
+        Err(RemoteError::Exists) => unreachable!(),
+        Err(RemoteError::NotEmpty) => unreachable!(),
     }
 }
 

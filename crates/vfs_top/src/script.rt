@@ -1,5 +1,7 @@
-ghost use Rattle.std.specs.Prelude.{◌≡◌, ◌≢◌, ◌≤◌, ◌<◌, ◌⊎◌, ◌++◌, [], ◌∷◌, length, map, vec_capacity, vec_len, IfOk};
+ghost use Rattle.std.specs.Prelude.{◌≡◌, ◌≢◌, ◌≤◌, ◌<◌, ◌⊎◌, ◌++◌, ℕ, List, [], ◌∷◌, length, map, vec_capacity, vec_len, IfOk};
+ghost use Rattle.vfs_names.specs.declared.fingerprint.Fingerprint.{Fingerprint};
 ghost use Rattle.vfs_outside.specs.Causes.{Rose};
+ghost use Rattle.memory_item.specs.Known.{Holds};
 ghost use Rattle.one_session.specs.Served.{Fits};
 ghost use Rattle.vfs_top.specs.Ended.{DoesAll, DoesNothing, DoesSome};
 ghost use Rattle.vfs_top.specs.Epoch.{epoch_of};
@@ -11,7 +13,7 @@ use one_session::{EpochLog, OneSession};
 use session_script::Line;
 use std::alloc::Global;
 use vfs_names::NoMemory;
-use vfs_outside::{Clock, Gate, Remote, Sink};
+use vfs_outside::{Clock, Gate, Object, Remote, Sink};
 
 /// The most places of a history.
 const HISTORY_LIMIT: u32 = 1_048_576;
@@ -34,14 +36,14 @@ pub fn run_script<K: Sink, R: Remote, C: Clock, G: Gate>(
     gate: &G,
 ) -> Kept
     requires { AreCalls lines.now }
-    ensures all { result.status ≡ 0 → DoesAll (K.written sink.old) (K.written sink.new)
+    ensures all { result.status ≡ 0 → DoesAll R.Object.tells (K.written sink.old) (K.written sink.new)
         (C.moment clock.old) (C.moment clock.new) (R.outside remote.old) (R.outside remote.new)
         lines.now (map epoch_of result.epochs.items) }
-    ensures some { result.status ≡ 5 → DoesSome (K.written sink.old) (K.written sink.new)
+    ensures some { result.status ≡ 5 → DoesSome R.Object.tells (K.written sink.old) (K.written sink.new)
         (C.moment clock.old) (C.moment clock.new) (R.outside remote.old) (R.outside remote.new)
         lines.now (map epoch_of result.epochs.items) }
     ensures starved { result.status ≡ 8 → DoesNothing (K.written sink.old) (K.written sink.new)
-        (map epoch_of result.epochs.items) ⊎ DoesSome (K.written sink.old) (K.written sink.new)
+        (map epoch_of result.epochs.items) ⊎ DoesSome R.Object.tells (K.written sink.old) (K.written sink.new)
         (C.moment clock.old) (C.moment clock.new) (R.outside remote.old) (R.outside remote.new)
         lines.now (map epoch_of result.epochs.items) }
     ensures rose { result.status ≡ 5 → Rose (K.faults sink.old) (K.faults sink.new) }
@@ -69,8 +71,10 @@ pub fn no_memory(alloc: Global) -> Kept
 }
 
 /// A session with room for the records of so many calls.
-fn begin(alloc: Global, calls: usize) -> Result<OneSession, NoMemory>
-    ensures new { IfOk result (λ session. Fits 1 [] session) }
+fn begin<O: Object>(alloc: Global, calls: usize) -> Result<OneSession<O>, NoMemory>
+    ensures new { (handed : List (Fingerprint × List ℕ))
+        → IfOk result (λ session. Fits 1 (Holds O.tells handed) [] session) }
+    ensures given { IfOk result (λ session. session.pairs ≡ []) }
     ensures limit { IfOk result (λ session. session.limit ≡ history_limit) }
     ensures none { IfOk result (λ session. session.files ≡ []) }
     ensures room { IfOk result (λ session. calls ≤ session.room) }
@@ -88,7 +92,7 @@ fn begin(alloc: Global, calls: usize) -> Result<OneSession, NoMemory>
 /// Does the lines, and keeps the epoch.
 fn run_begun<K: Sink, R: Remote, C: Clock, G: Gate>(
     alloc: Global,
-    session: OneSession,
+    session: OneSession<R::Object>,
     epochs: Vec<EpochLog>,
     sink: &mut K,
     remote: &mut R,
@@ -96,17 +100,18 @@ fn run_begun<K: Sink, R: Remote, C: Clock, G: Gate>(
     lines: &[Line],
     gate: &G,
 ) -> Kept
-    requires new { Fits 1 [] session }
+    requires new { (handed : List (Fingerprint × List ℕ)) → Fits 1 (Holds R.Object.tells handed) [] session }
+    requires given { session.pairs ≡ [] }
     requires limit { session.limit ≡ history_limit }
     requires files { session.files ≡ [] }
     requires calls { AreCalls lines.now }
     requires records { length lines.now ≤ session.room }
     requires none { epochs.items ≡ [] }
     requires room { vec_len epochs < vec_capacity epochs }
-    ensures all { result.status ≡ 0 → DoesAll (K.written sink.old) (K.written sink.new)
+    ensures all { result.status ≡ 0 → DoesAll R.Object.tells (K.written sink.old) (K.written sink.new)
         (C.moment clock.old) (C.moment clock.new) (R.outside remote.old) (R.outside remote.new)
         lines.now (map epoch_of result.epochs.items) }
-    ensures some { result.status ≢ 0 → DoesSome (K.written sink.old) (K.written sink.new)
+    ensures some { result.status ≢ 0 → DoesSome R.Object.tells (K.written sink.old) (K.written sink.new)
         (C.moment clock.old) (C.moment clock.new) (R.outside remote.old) (R.outside remote.new)
         lines.now (map epoch_of result.epochs.items) }
     ensures rose { result.status ≡ 5 → Rose (K.faults sink.old) (K.faults sink.new) }

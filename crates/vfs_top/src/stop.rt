@@ -18,6 +18,8 @@ pub enum Stop {
     Source,
     /// The script is above a limit.
     Limit(Limit),
+    /// The remote couldn't be attached.
+    Remote,
     NoMemory,
 }
 
@@ -31,6 +33,7 @@ impl Stop {
             Stop::Refused { .. } => 3,
             Stop::Source => 4,
             Stop::Limit(_) => 7,
+            Stop::Remote => 6,
             Stop::NoMemory => 8,
         }
     }
@@ -53,6 +56,7 @@ fn print_reason(out: &mut Blob, stop: Stop) -> Result<(), NoMemory>
         Stop::Refused { line, why } => print_refused(out, line, why),
         Stop::Source => out.append(b"source fault"),
         Stop::Limit(limit) => print_limit(out, limit),
+        Stop::Remote => out.append(b"remote fault"),
         Stop::NoMemory => out.append(b"no memory"),
     }
 }

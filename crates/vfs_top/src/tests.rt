@@ -7,6 +7,8 @@ use std::test::Fail;
 use vfs_names::VPath;
 use vfs_outside::{MemorySink, MemorySource, OpenGate, Remote, ScriptClock};
 
+mod folder;
+mod objects;
 mod odd_remote;
 
 use odd_remote::OddRemote;
@@ -349,11 +351,11 @@ fn a_root_that_cannot_be_listed_is_told(rt: HostRuntime) -> Result<(), Fail> {
 }
 
 #[test]
-fn what_the_remote_shows_is_refused(rt: HostRuntime) -> Result<(), Fail> {
-    let script = "s1 open 0 shown rw create\ns1 open 1 show rw create\n";
+fn a_root_that_is_missing_and_an_object_that_is_gone_are_told(rt: HostRuntime) -> Result<(), Fail> {
+    let script = "s1 open 0 shown r\ns1 open 0 shown rw create\n";
     let mut source = source_of(rt.alloc(), script.as_bytes(), &[])?;
     let seen = run_over(rt.alloc(), &ROW, &mut source, &[], OddRemote::new(false))?;
-    expect_replies(&rt, &seen, "1 E11 unsupported [t1]\n2 ok [t2 f0:1]\n");
+    expect_replies(&rt, &seen, "1 E1 not found [t2]\n2 ok [t3 f0:1]\n");
     let mut source = source_of(rt.alloc(), script.as_bytes(), &[])?;
     let seen = run_over(rt.alloc(), &ROW, &mut source, &[], OddRemote::new(true))?;
     expect_replies(&rt, &seen, "1 E1 not found [t0]\n2 E1 not found [t1]\n");

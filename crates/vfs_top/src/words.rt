@@ -1,5 +1,5 @@
 ghost use Rattle.std.specs.Prelude.{◌≡◌, ◌≢◌, ◌↔◌, ◌∷◌, ℕ, List, IsTrue, IfSome, IfNone, map, string_bytes};
-ghost use Rattle.vfs_top.specs.Words.{IsDir, IsRow, tail_of_row};
+ghost use Rattle.vfs_top.specs.Words.{IsDir, IsRow, NamesRemote, tail_of_row};
 
 /// The words are the one row that the program takes: `run --remote DIR --cache DIR --vfs-cache-mode full
 /// --worker-turns 0`.
@@ -16,6 +16,17 @@ pub fn is_row(words: &[String]) -> bool
         return false;
     };
     is_tail(words)
+}
+
+/// The word that names the remote's directory, which stands behind `--remote`.
+pub fn remote_name(words: &[String]) -> &str
+    requires { IsRow (map string_bytes words.now) }
+    ensures { NamesRemote (map string_bytes words.now) result.now }
+{
+    match words {
+        [_run, _option, name, ..] => name.as_str(),
+        _ => unreachable!(),
+    }
 }
 
 /// The words are `--vfs-cache-mode full --worker-turns 0`.

@@ -8,7 +8,7 @@ use Rattle.one_session.specs.Views.{stored}
 use Rattle.one_session.proofs.files.logs_of.Given as goal
 
 abbrev pub invariant-loop-file : goal.invariant-loop-file
-invariant-loop-file l = record {
+invariant-loop-file g l = record {
   all : l.yielded ++ into_iter_items l.file-iterator ≡ into_iter_items l.initial.file-iterator;
   left : into_iter_len l.file-iterator ≡ length (into_iter_items l.file-iterator);
   so_far : map history_of l.logs.items ≡ map stored l.yielded;

@@ -1,26 +1,30 @@
-use Rattle.std.proofs.Common.{sym, subst, []}
-use Rattle.one_session.specs.Did.{Did}
-use Rattle.one_session.specs.Standing.{recorded, state_of}
-use Rattle.one_session.proofs.Served.{quiet_read, quiet_write, quiet_close}
+use Rattle.std.proofs.Common.{subst, sym, refl}
+use Rattle.one_session.proofs.Deciding.{given_same}
 use Rattle.one_session.proofs.store.Store.answer.Goals as goal
 
 pub returns-in-Open-clause-did : goal.returns-in-Open-clause-did
-returns-in-Open-clause-did g c = λ line. subst (λ call. Did 1 c.args.by call (recorded line c.open.result) (state_of c.args.self.now [] 0) (state_of c.open.new.self [] 0)) (sym c.in-Open.is) (c.open.ensures.did line)
+returns-in-Open-clause-did g c = λ given line. rw c.in-Open.is (c.open.ensures.did (g.R.Remote.outside c.open.new.remote).handed line)
+
+pub returns-in-Open-clause-cause : goal.returns-in-Open-clause-cause
+returns-in-Open-clause-cause g c = λ line. rw c.in-Open.is (c.open.ensures.cause line)
 
 pub returns-in-Read-clause-did : goal.returns-in-Read-clause-did
-returns-in-Read-clause-did g c = λ line. subst (λ call. Did 1 c.args.by call (recorded line c.read.result) (state_of c.args.self.now [] 0) (state_of c.read.new.self [] 0)) (sym c.in-Read.is) (c.read.ensures.did line)
+returns-in-Read-clause-did g c = λ given line. rw c.in-Read.is (c.read.ensures.did (g.R.Remote.outside c.args.remote.now).handed given line)
+
+pub returns-in-Read-clause-given : goal.returns-in-Read-clause-given
+returns-in-Read-clause-given g c = given_same g.O.Object.tells _ _ _ _ refl c.read.ensures.given
+
+pub returns-in-Read-clause-read_cause : goal.returns-in-Read-clause-read_cause
+returns-in-Read-clause-read_cause g c = λ line. rw c.in-Read.is (c.read.ensures.cause line)
 
 pub returns-in-Write-clause-did : goal.returns-in-Write-clause-did
-returns-in-Write-clause-did g c = λ line. subst (λ call. Did 1 c.args.by call (recorded line c.write.result) (state_of c.args.self.now [] 0) (state_of c.write.new.self [] 0)) (sym c.in-Write.is) (c.write.ensures.did line)
+returns-in-Write-clause-did g c = λ given line. rw c.in-Write.is (c.write.ensures.did (g.R.Remote.outside c.args.remote.now).handed line)
+
+pub returns-in-Write-clause-given : goal.returns-in-Write-clause-given
+returns-in-Write-clause-given g c = given_same g.O.Object.tells _ _ _ _ refl c.write.ensures.given
 
 pub returns-in-Close-clause-did : goal.returns-in-Close-clause-did
-returns-in-Close-clause-did g c = λ line. subst (λ call. Did 1 c.args.by call (recorded line c.close.result) (state_of c.args.self.now [] 0) (state_of c.close.new.self [] 0)) (sym c.in-Close.is) (c.close.ensures.did line)
+returns-in-Close-clause-did g c = λ given line. rw c.in-Close.is (c.close.ensures.did (g.R.Remote.outside c.args.remote.now).handed line)
 
-pub returns-in-Read-clause-cause : goal.returns-in-Read-clause-cause
-returns-in-Read-clause-cause g c = λ line. quiet_read _ _ _ _ (c.read.ensures.did line).answered
-
-pub returns-in-Write-clause-cause : goal.returns-in-Write-clause-cause
-returns-in-Write-clause-cause g c = λ line. quiet_write _ _ c.in-Write.payload _ _ (c.write.ensures.did line).answered
-
-pub returns-in-Close-clause-cause : goal.returns-in-Close-clause-cause
-returns-in-Close-clause-cause g c = λ line. quiet_close _ _ _ (c.close.ensures.did line).answered
+pub returns-in-Close-clause-given : goal.returns-in-Close-clause-given
+returns-in-Close-clause-given g c = given_same g.O.Object.tells _ _ _ _ refl c.close.ensures.given

@@ -1,85 +1,176 @@
-use Rattle.std.proofs.Common.{ap, ◌∙◌, sym, refl, true, Some, length, set, arith, ◌∷◌, ◌++◌, [], inl, inr}
-use Rattle.one_session.specs.Calls.{in_file, in_tree}
-use Rattle.one_session.specs.Standing.{recorded}
-use Rattle.one_session.specs.Tree.{item_of, is_shown}
+use Rattle.std.proofs.Common.{None, false, ◌∙◌, ap, sym, refl, inl, inr, arith, subst, ◌≡◌, ◌<◌, ◌+◌, ◌++◌, ◌∷◌, [], length, reverse}
+use Rattle.std.proofs.lemmas.List.{length-map}
 use Rattle.vfs_names.specs.declared.refusal.Refusal.TheVariants as refusals
-use Rattle.vfs_names.specs.declared.refusal.Verb.TheVariants as verb
 use Rattle.vfs_outside.specs.declared.tree.TreeKind.TheVariants as tree
-use Rattle.item_core.specs.declared.entry.FileKind.TheVariants as file
-use Rattle.one_session.proofs.Doing.{create_done, told_done, shown_adds, unlisted_done}
-use Rattle.one_session.proofs.Keeping.{sound_listed, sound_told, listed_item, listed_own, few_files}
+use Rattle.memory_item.specs.Known.{Holds}
+use Rattle.one_session.specs.Calls.{in_tree, refused_open}
+use Rattle.one_session.specs.Start.{front_of, given_by, is_create, named_by, opened_kind, opening}
+use Rattle.one_session.specs.State.{entries_in}
+use Rattle.one_session.specs.Tree.{files_of, item_of, shown}
+use Rattle.one_session.specs.Views.{given_all, histories, item_in, stored}
+use Rattle.one_session.proofs.Deciding.{begun_did, done_cause, fault_cause, given_more, given_same, look_sound, lose_did, lose_settled, lose_sound, met_again, met_new, missing_cause, missing_of, fault_of, own_cause, refuse_cause, refuse_did, refuse_sound, remote_cause, unlisted_did}
+use Rattle.session_script.specs.declared.call.Call.TheVariants as call
+use Rattle.vfs_outside.proofs.Told.{later_rose}
+use Rattle.one_session.specs.Calls.{ShowsObject}
+use Rattle.one_session.specs.Causes.{ends_gone}
+use Rattle.one_session.specs.Sound.{IsTied}
+use Rattle.one_session.specs.Standing.{recorded}
+use Rattle.one_session.specs.Views.{add_to}
+use Rattle.one_session.proofs.Doing.{bare, starved_done}
+use Rattle.one_session.proofs.Given.{given_begun, given_made}
+use Rattle.one_session.proofs.Keeping.{Goes, goes_new, goes_on, none_past}
+use Rattle.one_session.proofs.Meeting.{IsMet, gives_is, meets_object, plan_is, settled_look, settled_more}
+use Rattle.one_session.proofs.Trees.{looked_files, looked_item}
 use Rattle.one_session.proofs.store.Store.open_new.Goals as goal
 
-pub put_created-requires-clause-sound : goal.put_created-requires-clause-sound
-put_created-requires-clause-sound g c =
-    let listed = c.in-Ok-2.ensures.ok in
-    record {
-      sound = rw (c.make.ensures.files, c.make.ensures.paths, listed.1) (sound_listed c.args.by _ listed.0 _ _ _ c.requires.sound.sound c.requires.actor listed.2);
-      limit = c.refresh.ensures.limit ∙ c.requires.sound.limit ∙ sym c.make.ensures.limit;
-    }
+pub returns-in-Err-clause-given : goal.returns-in-Err-clause-given
+returns-in-Err-clause-given g c = given_same g.O.Object.tells _ _ _ _ refl (ap given_all c.make.ensures.items)
 
-pub put_created-requires-clause-absent : goal.put_created-requires-clause-absent
-put_created-requires-clause-absent g c =
-    let listed = c.in-Ok-2.ensures.ok in
-    ap (λ l. item_of l c.in-Ok.made.named) listed.1 ∙ listed_item c.args.by c.args.self.now.tree.entries listed.0 c.in-Ok.made.named listed.2 ∙ ap (item_of c.args.self.now.tree.entries) c.in-Ok.ensures.named ∙ c.requires.absent
+pub returns-in-Err-clause-cause : goal.returns-in-Err-clause-cause
+returns-in-Err-clause-cause g c = λ line. remote_cause c.args.handle c.args.path.now c.args.how _ _ _ (g.R.Remote.outside c.args.remote.now) _ [] (omega arith) (omega arith) refl (omega arith) (omega arith) refl (own_cause c.args.path.now _ _ _ _ c.in-Err.why c.bare.ensures.reply c.in-Err.ensures.causes)
 
-pub returns-in-Ok-2-clause-did : goal.returns-in-Ok-2-clause-did
-returns-in-Ok-2-clause-did g c = λ line.
-    let s = c.requires.sound.sound in
-    let listed = c.in-Ok-2.ensures.ok in
-    let files = c.make.ensures.files in
-    create_done c.args.by _ _ _ c.args.handle _ c.args.path.now c.args.how listed.0 (c.in-Ok.made.named ∷ []) c.requires.actor c.put_created.ensures.reply c.put_created.ensures.in_tree
-    (c.put_created.ensures.in_file ∙ ap (λ l. Some (record { 0 = length l }, 1)) files)
-    c.requires.closed (omega (arith, s.size, c.ranges.handle)) listed.2 c.requires.absent (sym (ap (λ l. is_shown l c.args.path.now) listed.1) ∙ sym c.if-shows.ensures) (few_files _ _ _ _ s).0
-    (ap length listed.1)
-    (c.put_created.ensures.tree ∙ ap (λ l. l ++ in_tree c.args.by (tree.Created c.in-Ok.made.named (record { 0 = length c.make.new.files.files })) ∷ []) listed.1
-    ∙ ap (λ p. (c.args.self.now.tree.entries ++ listed.0) ++ in_tree c.args.by (tree.Created p (record { 0 = length c.make.new.files.files })) ∷ []) c.in-Ok.ensures.named
-    ∙ ap (λ l. (c.args.self.now.tree.entries ++ listed.0) ++ in_tree c.args.by (tree.Created c.args.path.now (record { 0 = length l })) ∷ []) files)
-    (c.put_created.ensures.files ∙ ap (λ l. l ++ record { entries = in_file c.args.by true file.Create ∷ in_file c.args.by true (file.Opened c.args.how.access) ∷ []; names = c.in-Ok.made.named ∷ [] } ∷ []) files)
-    (c.put_created.ensures.table ∙ ap (λ l. set c.args.self.now.table.items c.args.handle (Some (length l))) files) (c.put_created.ensures.limit ∙ c.make.ensures.limit)
+pub returns-in_default-clause-given : goal.returns-in_default-clause-given
+returns-in_default-clause-given g c = given_same g.O.Object.tells _ _ _ _ refl (ap given_all c.make.ensures.items)
 
-pub returns-in-Ok-refresh-clause-sound : goal.returns-in-Ok-refresh-clause-sound
-returns-in-Ok-refresh-clause-sound g c =
-    let listed = c.in-Ok-refresh.ensures.ok in
-    record {
-      sound = rw (c.make.ensures.files, c.make.ensures.paths, c.refuse.ensures.entries, listed.1) (sound_told _ (in_tree c.args.by (tree.Refused verb.Open c.in-Ok.made.named refusals.Unsupported)) _ _ _
-          (sound_listed c.args.by _ listed.0 _ _ _ c.requires.sound.sound c.requires.actor listed.2) refl refl c.requires.actor refl);
-      limit = c.refuse.ensures.limit ∙ c.refresh.ensures.limit ∙ c.requires.sound.limit ∙ sym c.make.ensures.limit;
-    }
-
-pub returns-in-Ok-refresh-clause-did : goal.returns-in-Ok-refresh-clause-did
-returns-in-Ok-refresh-clause-did g c = λ line.
-    let listed = c.in-Ok-refresh.ensures.ok in
-    told_done c.args.by _ _ _ c.args.handle _ c.args.path.now c.args.how listed.0 refusals.Unsupported c.requires.actor (inr (inr refl)) c.refuse.ensures.reply c.refuse.ensures.place c.refuse.ensures.file
-    c.requires.closed (listed_own c.args.by c.args.self.now.tree.entries listed.0 c.requires.actor listed.2)
-    (λ e. shown_adds c.args.by c.args.path.now (recorded line c.refuse.result) c.args.self.now.tree.entries listed.0 listed.2 c.requires.absent (sym (ap (λ l. is_shown l c.args.path.now) listed.1) ∙ sym c.if-shows.ensures) e)
-    (ap length listed.1)
-    (c.refuse.ensures.entries ∙ ap (λ l. l ++ in_tree c.args.by (tree.Refused verb.Open c.in-Ok.made.named refusals.Unsupported) ∷ []) listed.1
-    ∙ ap (λ p. (c.args.self.now.tree.entries ++ listed.0) ++ in_tree c.args.by (tree.Refused verb.Open p refusals.Unsupported) ∷ []) c.in-Ok.ensures.named)
-    c.make.ensures.files refl c.make.ensures.limit
+pub returns-in_default-clause-cause : goal.returns-in_default-clause-cause
+returns-in_default-clause-cause g c = λ line. remote_cause c.args.handle c.args.path.now c.args.how _ _ _ (g.R.Remote.outside c.args.remote.now) _ [] (omega arith) (omega arith) refl (omega arith) (omega arith) refl (own_cause c.args.path.now _ _ _ _ refusals.NoMemory c.bare-in_default.ensures.reply (inr refl))
 
 pub returns-in-Err-NotFound-clause-sound : goal.returns-in-Err-NotFound-clause-sound
 returns-in-Err-NotFound-clause-sound g c = record {
-  sound = rw (c.make.ensures.files, c.make.ensures.paths, c.refuse-in-Err-NotFound.ensures.entries, c.in-Err-NotFound.ensures.err) (sound_told _ (in_tree c.args.by (tree.Refused verb.Open c.in-Ok.made.named refusals.NotFound)) _ _ _ c.requires.sound.sound refl refl c.requires.actor refl);
-  limit = c.refuse-in-Err-NotFound.ensures.limit ∙ c.refresh.ensures.limit ∙ c.requires.sound.limit ∙ sym c.make.ensures.limit;
+  sound = rw (c.make.ensures.paths, (ap histories c.make.ensures.items), c.refuse.ensures.entries, c.in-Err-NotFound.ensures.err) (refuse_sound c.args.by _ c.in-Ok-of.names.own refusals.NotFound _ _ _ c.requires.actor c.requires.sound.sound);
+  limit = c.refuse.ensures.limit ∙ c.refresh.ensures.limit ∙ c.requires.sound.limit ∙ sym c.make.ensures.limit;
+  settled = λ path. settled_more _ _ _ path c.refuse.ensures.entries refl;
 }
 
 pub returns-in-Err-NotFound-clause-did : goal.returns-in-Err-NotFound-clause-did
-returns-in-Err-NotFound-clause-did g c = λ line.
-    unlisted_done c.args.by _ _ _ c.args.handle _ c.args.path.now c.args.how refusals.NotFound c.requires.actor (inl refl) c.refuse-in-Err-NotFound.ensures.reply c.refuse-in-Err-NotFound.ensures.place c.refuse-in-Err-NotFound.ensures.file
-    c.requires.closed c.in-Err-NotFound.ensures.unlisted (ap length c.in-Err-NotFound.ensures.err)
-    (c.refuse-in-Err-NotFound.ensures.entries ∙ ap (λ l. l ++ in_tree c.args.by (tree.Refused verb.Open c.in-Ok.made.named refusals.NotFound) ∷ []) c.in-Err-NotFound.ensures.err ∙ ap (λ p. c.args.self.now.tree.entries ++ in_tree c.args.by (tree.Refused verb.Open p refusals.NotFound) ∷ []) c.in-Ok.ensures.named)
-    c.make.ensures.files refl c.make.ensures.limit
+returns-in-Err-NotFound-clause-did g c = λ handed line.
+    unlisted_did (Holds g.O.Object.tells handed) c.args.by _ _ _ c.args.handle c.args.path.now c.args.how _ refusals.NotFound c.requires.actor (inl refl) c.in-Err-NotFound.ensures.err c.refuse.ensures.reply c.refuse.ensures.place c.refuse.ensures.file c.requires.closed c.in-Err-NotFound.ensures.unlisted
+    (c.refuse.ensures.entries ∙ ap (λ p. c.refresh.new.tree.entries ++ refused_open c.args.by p refusals.NotFound ∷ []) c.in-Ok-of.ensures.own) (ap histories c.make.ensures.items) refl c.make.ensures.limit
+
+pub returns-in-Err-NotFound-clause-given : goal.returns-in-Err-NotFound-clause-given
+returns-in-Err-NotFound-clause-given g c = given_same g.O.Object.tells _ _ _ _ c.refresh.ensures.handed (ap given_all c.make.ensures.items)
+
+pub returns-in-Err-NotFound-clause-cause : goal.returns-in-Err-NotFound-clause-cause
+returns-in-Err-NotFound-clause-cause g c = λ line. remote_cause c.args.handle c.args.path.now c.args.how _ _ _ (g.R.Remote.outside c.refresh.new.remote) _ [] c.refresh.ensures.faults c.refresh.ensures.changes c.refresh.ensures.handed (omega arith) (omega arith) refl (missing_cause c.args.path.now _ _ _ _ c.refuse.ensures.reply (missing_of c.in-Err-NotFound.field-0 c.in-Err-NotFound.field-0-is c.in-Err-NotFound.ensures.causes))
 
 pub returns-in-Err-RemoteFault-clause-sound : goal.returns-in-Err-RemoteFault-clause-sound
 returns-in-Err-RemoteFault-clause-sound g c = record {
-  sound = rw (c.make.ensures.files, c.make.ensures.paths, c.refuse-in-Err-RemoteFault.ensures.entries, c.in-Err-RemoteFault.ensures.err) (sound_told _ (in_tree c.args.by (tree.Refused verb.Open c.in-Ok.made.named refusals.RemoteFault)) _ _ _ c.requires.sound.sound refl refl c.requires.actor refl);
+  sound = rw (c.make.ensures.paths, (ap histories c.make.ensures.items), c.refuse-in-Err-RemoteFault.ensures.entries, c.in-Err-RemoteFault.ensures.err) (refuse_sound c.args.by _ c.in-Ok-of.names.own refusals.RemoteFault _ _ _ c.requires.actor c.requires.sound.sound);
   limit = c.refuse-in-Err-RemoteFault.ensures.limit ∙ c.refresh.ensures.limit ∙ c.requires.sound.limit ∙ sym c.make.ensures.limit;
+  settled = λ path. settled_more _ _ _ path c.refuse-in-Err-RemoteFault.ensures.entries refl;
 }
 
 pub returns-in-Err-RemoteFault-clause-did : goal.returns-in-Err-RemoteFault-clause-did
-returns-in-Err-RemoteFault-clause-did g c = λ line.
-    unlisted_done c.args.by _ _ _ c.args.handle _ c.args.path.now c.args.how refusals.RemoteFault c.requires.actor (inr refl) c.refuse-in-Err-RemoteFault.ensures.reply c.refuse-in-Err-RemoteFault.ensures.place c.refuse-in-Err-RemoteFault.ensures.file
-    c.requires.closed c.in-Err-RemoteFault.ensures.unlisted (ap length c.in-Err-RemoteFault.ensures.err)
-    (c.refuse-in-Err-RemoteFault.ensures.entries ∙ ap (λ l. l ++ in_tree c.args.by (tree.Refused verb.Open c.in-Ok.made.named refusals.RemoteFault) ∷ []) c.in-Err-RemoteFault.ensures.err ∙ ap (λ p. c.args.self.now.tree.entries ++ in_tree c.args.by (tree.Refused verb.Open p refusals.RemoteFault) ∷ []) c.in-Ok.ensures.named)
-    c.make.ensures.files refl c.make.ensures.limit
+returns-in-Err-RemoteFault-clause-did g c = λ handed line.
+    unlisted_did (Holds g.O.Object.tells handed) c.args.by _ _ _ c.args.handle c.args.path.now c.args.how _ refusals.RemoteFault c.requires.actor (inr refl) c.in-Err-RemoteFault.ensures.err c.refuse-in-Err-RemoteFault.ensures.reply c.refuse-in-Err-RemoteFault.ensures.place c.refuse-in-Err-RemoteFault.ensures.file c.requires.closed c.in-Err-RemoteFault.ensures.unlisted
+    (c.refuse-in-Err-RemoteFault.ensures.entries ∙ ap (λ p. c.refresh.new.tree.entries ++ refused_open c.args.by p refusals.RemoteFault ∷ []) c.in-Ok-of.ensures.own) (ap histories c.make.ensures.items) refl c.make.ensures.limit
+
+pub returns-in-Err-RemoteFault-clause-given : goal.returns-in-Err-RemoteFault-clause-given
+returns-in-Err-RemoteFault-clause-given g c = given_same g.O.Object.tells _ _ _ _ c.refresh.ensures.handed (ap given_all c.make.ensures.items)
+
+pub returns-in-Err-RemoteFault-clause-cause : goal.returns-in-Err-RemoteFault-clause-cause
+returns-in-Err-RemoteFault-clause-cause g c = λ line. remote_cause c.args.handle c.args.path.now c.args.how _ _ _ (g.R.Remote.outside c.refresh.new.remote) _ [] c.refresh.ensures.faults c.refresh.ensures.changes c.refresh.ensures.handed (omega arith) (omega arith) refl (fault_cause c.args.path.now _ _ _ _ c.refuse-in-Err-RemoteFault.ensures.reply (fault_of c.in-Err-RemoteFault.field-0 c.in-Err-RemoteFault.field-0-is c.in-Err-RemoteFault.ensures.causes))
+
+pub returns-in-Err-refresh : goal.returns-in-Err-refresh
+returns-in-Err-refresh g c = record {
+  sound = record {
+    sound = rw (c.make.ensures.paths, (ap histories c.make.ensures.items), c.in-Err-refresh.ensures.err) c.requires.sound.sound;
+    limit = c.refresh.ensures.limit ∙ c.requires.sound.limit ∙ sym c.make.ensures.limit;
+    settled = λ path. ap (λ l. ends_gone (reverse l) path) c.in-Err-refresh.ensures.err ∙ c.requires.sound.settled path;
+  };
+  later = rw (ap histories c.make.ensures.items) c.requires.later;
+  did = λ handed line. bare (Holds g.O.Object.tells handed) c.args.by (call.Open c.args.handle c.args.path.now c.args.how) _ refusals.NoMemory _ _ c.bare-in-Err-refresh.ensures.reply c.bare-in-Err-refresh.ensures.tree c.bare-in-Err-refresh.ensures.file c.in-Err-refresh.ensures.err (ap histories c.make.ensures.items) refl c.make.ensures.limit
+      (inr (inr (inr (inr (record { reply = c.bare-in-Err-refresh.ensures.reply; file = c.bare-in-Err-refresh.ensures.file }, c.requires.closed))))) (λ e. absurd (never e));
+  given = given_same g.O.Object.tells _ _ _ _ c.refresh.ensures.handed (ap given_all c.make.ensures.items);
+  cause = λ line. remote_cause c.args.handle c.args.path.now c.args.how _ _ _ (g.R.Remote.outside c.refresh.new.remote) _ [] c.refresh.ensures.faults c.refresh.ensures.changes c.refresh.ensures.handed (omega arith) (omega arith) refl (own_cause c.args.path.now _ _ _ _ refusals.NoMemory c.bare-in-Err-refresh.ensures.reply (inr refl));
+} where
+  never : refusals.NoMemory ≡ refusals.HistoryFull → ⊥
+  never e = cc
+
+pub put_new-requires-clause-sound : goal.put_new-requires-clause-sound
+put_new-requires-clause-sound g c = let listed = c.in-Ok-refresh.ensures.ok in
+    record {
+      sound = rw (c.make.ensures.paths, (ap histories c.make.ensures.items), listed.1) (look_sound c.args.by _ listed.0 _ _ _ c.requires.actor listed.2 c.requires.sound.sound);
+      limit = c.refresh.ensures.limit ∙ c.requires.sound.limit ∙ sym c.make.ensures.limit;
+      settled = λ path. ap (λ l. ends_gone (reverse l) path) listed.1 ∙ settled_look c.args.by c.args.self.now.tree.entries listed.0 path listed.2 (c.requires.sound.settled path);
+    }
+
+pub returns-in-Begin-clause-did : goal.returns-in-Begin-clause-did
+returns-in-Begin-clause-did g c = λ handed line.
+    let listed = c.in-Ok-refresh.ensures.ok in
+    let counted : length (histories c.args.self.now.files.items) ≡ length c.make.new.files.items = length-map c.args.self.now.files.items stored ∙ ap length (sym c.make.ensures.items) in
+    let none : entries_in (histories c.args.self.now.files.items) (length c.make.new.files.items) ≡ [] = none_past (histories c.args.self.now.files.items) (length c.make.new.files.items) (omega (arith, counted)) in
+    let small : c.args.handle < length c.args.self.now.table.items = omega (arith, c.requires.sound.sound.size, c.ranges.handle) in
+    begun_did g.O.Object.print_of (Holds g.O.Object.tells handed) c.args.by _ _ _ c.args.handle (length c.make.new.files.items) _ _ c.args.path.now c.in-Ok-of.names.own c.args.how listed.0 c.refresh.new.tree.entries (record { used = false; bound = false; held = None; shown = c.shows.result; create = c.args.how.create }) c.in-Begin.start c.put_new.ensures.tree.0 c.requires.actor c.put_new.ensures.reply c.put_new.ensures.in_tree c.put_new.ensures.in_file c.requires.closed small
+    listed.1 listed.2 c.in-Ok-of.ensures.own (inr (ap (λ l. item_of l c.args.path.now) listed.1 ∙ looked_item c.args.by c.args.self.now.tree.entries listed.0 c.args.path.now listed.2 ∙ c.requires.absent, sym (ap files_of listed.1 ∙ looked_files c.args.by c.args.self.now.tree.entries listed.0 listed.2 ∙ c.requires.sound.sound.numbered ∙ counted))) (subst (λ i. Goes (histories c.args.self.now.files.items) (histories c.put_new.new.self.files.items) i (opening c.args.by c.args.how.access (front_of g.O.Object.print_of c.in-Begin.start))) counted (subst (λ fs. Goes (histories c.args.self.now.files.items) fs (length (histories c.args.self.now.files.items)) (opening c.args.by c.args.how.access (front_of g.O.Object.print_of c.in-Begin.start))) (ap (λ fs. fs ++ record { entries = (opening c.args.by c.args.how.access (front_of g.O.Object.print_of c.in-Begin.start)); names = (named_by c.in-Ok-of.names.file c.in-Begin.start) } ∷ []) (sym (ap histories c.make.ensures.items)) ∙ sym c.put_new.ensures.files) (goes_new (histories c.args.self.now.files.items) (opening c.args.by c.args.how.access (front_of g.O.Object.print_of c.in-Begin.start)) (named_by c.in-Ok-of.names.file c.in-Begin.start)))) c.put_new.ensures.tree.2 refl (omega (arith, ap length none)) (subst (λ l. IsMet (record { used = false; bound = false; held = None; shown = c.shows.result; create = c.args.how.create }) c.refresh.new.tree.entries c.args.path.now c.args.how (reverse l)) (sym none) (met_new c.args.by _ listed.0 c.refresh.new.tree.entries c.args.path.now c.args.how c.shows.result listed.1 listed.2 c.requires.absent c.shows.ensures)) (plan_is g.O.Object.print_of (record { used = false; bound = false; held = None; shown = c.shows.result; create = c.args.how.create }) (g.R.Remote.outside c.refresh.new.remote) (g.R.Remote.outside c.make_plan.new.remote) _ _ c.in-Begin.is c.in-Ok-make_plan.ensures.plans) c.put_new.ensures.tree.1 c.put_new.ensures.table (c.put_new.ensures.limit ∙ c.make.ensures.limit)
+
+pub returns-in-Begin-clause-given : goal.returns-in-Begin-clause-given
+returns-in-Begin-clause-given g c = λ given.
+    given_made g.O.Object.tells _ _ _ _ _ _ _ c.put_new.ensures.given c.refresh.ensures.handed (gives_is _ _ (g.R.Remote.outside c.refresh.new.remote) (g.R.Remote.outside c.make_plan.new.remote) _ _ c.in-Begin.is c.in-Ok-make_plan.ensures.gives) (ap given_all c.make.ensures.items) given
+
+pub returns-in-Refuse-clause-sound : goal.returns-in-Refuse-clause-sound
+returns-in-Refuse-clause-sound g c = let listed = c.in-Ok-refresh.ensures.ok in
+    record {
+      sound = rw (c.make.ensures.paths, (ap histories c.make.ensures.items), c.refuse-in-Refuse.ensures.entries, listed.1) (refuse_sound c.args.by _ c.in-Ok-of.names.own c.in-Refuse.why _ _ _ c.requires.actor (look_sound c.args.by _ listed.0 _ _ _ c.requires.actor listed.2 c.requires.sound.sound));
+      limit = c.refuse-in-Refuse.ensures.limit ∙ c.refresh.ensures.limit ∙ c.requires.sound.limit ∙ sym c.make.ensures.limit;
+      settled = λ path. settled_more _ _ _ path c.refuse-in-Refuse.ensures.entries refl;
+    }
+
+pub returns-in-Refuse-clause-did : goal.returns-in-Refuse-clause-did
+returns-in-Refuse-clause-did g c = λ handed line.
+    let listed = c.in-Ok-refresh.ensures.ok in
+    refuse_did (Holds g.O.Object.tells handed) c.args.by _ _ _ c.args.handle c.args.path.now c.args.how (record { used = false; bound = false; held = None; shown = c.shows.result; create = c.args.how.create }) [] (g.R.Remote.outside c.refresh.new.remote) (g.R.Remote.outside c.make_plan.new.remote) listed.0 c.refresh.new.tree.entries c.in-Refuse.why c.requires.actor listed.1 listed.2 (met_new c.args.by _ listed.0 c.refresh.new.tree.entries c.args.path.now c.args.how c.shows.result listed.1 listed.2 c.requires.absent c.shows.ensures) (plan_is g.O.Object.print_of (record { used = false; bound = false; held = None; shown = c.shows.result; create = c.args.how.create }) (g.R.Remote.outside c.refresh.new.remote) (g.R.Remote.outside c.make_plan.new.remote) _ _ c.in-Refuse.is c.in-Ok-make_plan.ensures.plans)
+    c.refuse-in-Refuse.ensures.reply c.refuse-in-Refuse.ensures.place c.refuse-in-Refuse.ensures.file c.requires.closed (c.refuse-in-Refuse.ensures.entries ∙ ap (λ p. c.refresh.new.tree.entries ++ refused_open c.args.by p c.in-Refuse.why ∷ []) c.in-Ok-of.ensures.own) (ap histories c.make.ensures.items) refl c.make.ensures.limit
+
+pub returns-in-Refuse-clause-given : goal.returns-in-Refuse-clause-given
+returns-in-Refuse-clause-given g c = given_more g.O.Object.tells _ _ _ (gives_is _ _ (g.R.Remote.outside c.refresh.new.remote) (g.R.Remote.outside c.make_plan.new.remote) _ _ c.in-Refuse.is c.in-Ok-make_plan.ensures.gives).0 _ _ c.refresh.ensures.handed (gives_is _ _ (g.R.Remote.outside c.refresh.new.remote) (g.R.Remote.outside c.make_plan.new.remote) _ _ c.in-Refuse.is c.in-Ok-make_plan.ensures.gives).1 (ap given_all c.make.ensures.items)
+
+pub returns-in-Refuse-clause-cause : goal.returns-in-Refuse-clause-cause
+returns-in-Refuse-clause-cause g c = λ line.
+    let listed = c.in-Ok-refresh.ensures.ok in
+    remote_cause c.args.handle c.args.path.now c.args.how _ _ _ (g.R.Remote.outside c.refresh.new.remote) _ (gives_is _ _ (g.R.Remote.outside c.refresh.new.remote) (g.R.Remote.outside c.make_plan.new.remote) _ _ c.in-Refuse.is c.in-Ok-make_plan.ensures.gives).0 c.refresh.ensures.faults c.refresh.ensures.changes c.refresh.ensures.handed c.make_plan.ensures.faults c.make_plan.ensures.changes (gives_is _ _ (g.R.Remote.outside c.refresh.new.remote) (g.R.Remote.outside c.make_plan.new.remote) _ _ c.in-Refuse.is c.in-Ok-make_plan.ensures.gives).1
+    (refuse_cause c.args.by c.args.handle c.args.path.now c.args.how _ (record { used = false; bound = false; held = None; shown = c.shows.result; create = c.args.how.create }) [] (g.R.Remote.outside c.args.remote.now) (g.R.Remote.outside c.refresh.new.remote) (g.R.Remote.outside c.make_plan.new.remote) [] c.refresh.new.tree.entries _ c.refresh.ensures.faults (met_new c.args.by _ listed.0 c.refresh.new.tree.entries c.args.path.now c.args.how c.shows.result listed.1 listed.2 c.requires.absent c.shows.ensures) c.refuse-in-Refuse.ensures.place (ap (λ l. ends_gone (reverse l) c.args.path.now) listed.1 ∙ settled_look c.args.by c.args.self.now.tree.entries listed.0 c.args.path.now listed.2 (c.requires.sound.settled c.args.path.now)) c.in-Refuse.why (plan_is g.O.Object.print_of (record { used = false; bound = false; held = None; shown = c.shows.result; create = c.args.how.create }) (g.R.Remote.outside c.refresh.new.remote) (g.R.Remote.outside c.make_plan.new.remote) _ _ c.in-Refuse.is c.in-Ok-make_plan.ensures.plans) c.refuse-in-Refuse.ensures.reply (c.refuse-in-Refuse.ensures.entries ∙ ap (λ p. c.refresh.new.tree.entries ++ refused_open c.args.by p c.in-Refuse.why ∷ []) c.in-Ok-of.ensures.own))
+
+pub returns-in-Lose-clause-sound : goal.returns-in-Lose-clause-sound
+returns-in-Lose-clause-sound g c = let listed = c.in-Ok-refresh.ensures.ok in
+    record {
+      sound = rw (c.make.ensures.paths, (ap histories c.make.ensures.items), c.lose.ensures.entries, listed.1) (lose_sound c.args.by _ c.in-Ok-of.names.own c.in-Ok-of.names.own refusals.NotFound _ _ _ c.requires.actor (look_sound c.args.by _ listed.0 _ _ _ c.requires.actor listed.2 c.requires.sound.sound));
+      limit = c.lose.ensures.limit ∙ c.refresh.ensures.limit ∙ c.requires.sound.limit ∙ sym c.make.ensures.limit;
+      settled = λ path. lose_settled c.args.by _ _ _ _ path refusals.NotFound c.lose.ensures.entries;
+    }
+
+pub returns-in-Lose-clause-did : goal.returns-in-Lose-clause-did
+returns-in-Lose-clause-did g c = λ handed line.
+    let listed = c.in-Ok-refresh.ensures.ok in
+    lose_did (Holds g.O.Object.tells handed) c.args.by _ _ _ c.args.handle c.args.path.now c.args.how (record { used = false; bound = false; held = None; shown = c.shows.result; create = c.args.how.create }) [] listed.0 c.refresh.new.tree.entries c.requires.actor listed.1 listed.2 (met_new c.args.by _ listed.0 c.refresh.new.tree.entries c.args.path.now c.args.how c.shows.result listed.1 listed.2 c.requires.absent c.shows.ensures) (plan_is g.O.Object.print_of (record { used = false; bound = false; held = None; shown = c.shows.result; create = c.args.how.create }) (g.R.Remote.outside c.refresh.new.remote) (g.R.Remote.outside c.make_plan.new.remote) _ _ c.in-Lose.is c.in-Ok-make_plan.ensures.plans).0
+    c.lose.ensures.reply c.lose.ensures.place c.lose.ensures.file c.requires.closed (c.lose.ensures.entries ∙ ap (λ p. c.refresh.new.tree.entries ++ in_tree c.args.by (tree.Gone p) ∷ refused_open c.args.by p refusals.NotFound ∷ []) c.in-Ok-of.ensures.own) (ap histories c.make.ensures.items) refl c.make.ensures.limit
+
+pub returns-in-Lose-clause-given : goal.returns-in-Lose-clause-given
+returns-in-Lose-clause-given g c = given_same g.O.Object.tells _ _ _ _ ((gives_is _ _ (g.R.Remote.outside c.refresh.new.remote) (g.R.Remote.outside c.make_plan.new.remote) _ _ c.in-Lose.is c.in-Ok-make_plan.ensures.gives) ∙ c.refresh.ensures.handed) (ap given_all c.make.ensures.items)
+
+pub returns-in-Lose-clause-cause : goal.returns-in-Lose-clause-cause
+returns-in-Lose-clause-cause g c = λ line.
+    remote_cause c.args.handle c.args.path.now c.args.how _ _ _ (g.R.Remote.outside c.refresh.new.remote) _ [] c.refresh.ensures.faults c.refresh.ensures.changes c.refresh.ensures.handed c.make_plan.ensures.faults c.make_plan.ensures.changes (gives_is _ _ (g.R.Remote.outside c.refresh.new.remote) (g.R.Remote.outside c.make_plan.new.remote) _ _ c.in-Lose.is c.in-Ok-make_plan.ensures.gives)
+    (missing_cause c.args.path.now _ _ _ _ c.lose.ensures.reply (later_rose _ _ _ c.refresh.ensures.changes (plan_is g.O.Object.print_of (record { used = false; bound = false; held = None; shown = c.shows.result; create = c.args.how.create }) (g.R.Remote.outside c.refresh.new.remote) (g.R.Remote.outside c.make_plan.new.remote) _ _ c.in-Lose.is c.in-Ok-make_plan.ensures.plans).1))
+
+pub returns-in-Err-make_plan-clause-sound : goal.returns-in-Err-make_plan-clause-sound
+returns-in-Err-make_plan-clause-sound g c = let listed = c.in-Ok-refresh.ensures.ok in
+    record {
+      sound = rw (c.make.ensures.paths, (ap histories c.make.ensures.items), listed.1) (look_sound c.args.by _ listed.0 _ _ _ c.requires.actor listed.2 c.requires.sound.sound);
+      limit = c.refresh.ensures.limit ∙ c.requires.sound.limit ∙ sym c.make.ensures.limit;
+      settled = λ path. ap (λ l. ends_gone (reverse l) path) listed.1 ∙ settled_look c.args.by c.args.self.now.tree.entries listed.0 path listed.2 (c.requires.sound.settled path);
+    }
+
+pub returns-in-Err-make_plan-clause-did : goal.returns-in-Err-make_plan-clause-did
+returns-in-Err-make_plan-clause-did g c = λ handed line.
+    let listed = c.in-Ok-refresh.ensures.ok in
+    starved_done (Holds g.O.Object.tells handed) c.args.by _ _ _ c.args.handle c.args.path.now c.args.how listed.0 c.requires.actor c.starved.ensures.reply (c.starved.ensures.tree ∙ listed.3) c.starved.ensures.file c.requires.closed listed.2
+    (subst (ShowsObject c.args.path.now) listed.1 (meets_object (record { used = false; bound = false; held = None; shown = c.shows.result; create = c.args.how.create }) c.refresh.new.tree.entries c.args.path.now c.args.how [] (met_new c.args.by _ listed.0 c.refresh.new.tree.entries c.args.path.now c.args.how c.shows.result listed.1 listed.2 c.requires.absent c.shows.ensures) c.in-Err-make_plan.ensures.plans)) listed.1 (ap histories c.make.ensures.items) refl c.make.ensures.limit
+
+pub returns-in-Err-make_plan-clause-given : goal.returns-in-Err-make_plan-clause-given
+returns-in-Err-make_plan-clause-given g c = given_same g.O.Object.tells _ _ _ _ (c.in-Err-make_plan.ensures.gives ∙ c.refresh.ensures.handed) (ap given_all c.make.ensures.items)
+
+pub returns-in-Err-make_plan-clause-cause : goal.returns-in-Err-make_plan-clause-cause
+returns-in-Err-make_plan-clause-cause g c = λ line.
+    remote_cause c.args.handle c.args.path.now c.args.how _ _ _ (g.R.Remote.outside c.refresh.new.remote) _ [] c.refresh.ensures.faults c.refresh.ensures.changes c.refresh.ensures.handed c.make_plan.ensures.faults c.make_plan.ensures.changes c.in-Err-make_plan.ensures.gives
+    (own_cause c.args.path.now _ _ _ _ refusals.NoMemory c.starved.ensures.reply (inr refl))

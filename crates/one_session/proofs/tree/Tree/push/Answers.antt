@@ -1,6 +1,6 @@
-use Rattle.std.proofs.Common.{arith, ap, ◌∙◌, ◌≡◌, ◌<◌, ◌≤◌, ℕ, true, min, length, vec_len, vec_capacity}
-use Rattle.one_session.specs.Tree.{is_close, is_listed, handles_of}
-use Rattle.one_session.proofs.Listings.{told_after, room_by}
+use Rattle.std.proofs.Common.{arith, ap, ◌∙◌, ◌≡◌, ◌<◌, ◌≤◌, ℕ, true, min, vec_len, vec_capacity}
+use Rattle.one_session.specs.Tree.{is_close, handles_of}
+use Rattle.one_session.proofs.Listings.{told_more, room_by}
 use Rattle.one_session.proofs.tree.Tree.push.Goals as goal
 
 closes : (c : goal.After-put_entry) → is_close c.args.entry.kind ≡ true → 0 < c.self.inside.handles
@@ -8,8 +8,8 @@ closes c h = omega (arith, c.self.invariant.0.counted, c.requires.close h, ap (�
 
 pub invariant_of-self : goal.invariant_of-self
 invariant_of-self c = (
-  told_after c.self.inside.entries.items _ c.args.entry c.self.inside.handles _ _ c.self.inside.listing _ c.put_entry.ensures.items c.handles_after-self-inside.ensures c.listing_after-self-inside.ensures (ap length c.as_slice-at.ensures.value)
-      c.self.invariant.0 (closes c) (λ h. ap (λ v. is_listed v.entries) c.self.view_is ∙ c.requires.once h),
+  told_more c.self.inside.entries.items _ c.args.entry c.self.inside.handles _ c.self.inside.listed c.self.inside.rows _ c.put_entry.ensures.items c.handles_after-self-inside.ensures c.reprint.ensures
+      c.self.invariant.0 (closes c) c.requires.unlisted,
   rw (c.put_entry.ensures.len, c.handles_after-self-inside.ensures) (fits _ _ _ _ c.put_entry.ensures.capacity
       (room_by c.args.entry.kind (min (vec_capacity c.self.inside.entries) c.self.inside.limit) (vec_len c.self.inside.entries) c.self.inside.handles (spared _ _ (ap (λ v. v.spare) c.self.view_is) c.requires.place) c.self.invariant.1 (closes c))),
 ) where
