@@ -7,7 +7,6 @@ use Rattle.byte_ranges.specs.Ranges.{has, is_in}
 use Rattle.byte_ranges.specs.declared.Span.{Span}
 use Rattle.vfs_names.specs.declared.fingerprint.Fingerprint.{Fingerprint}
 use Rattle.vfs_names.specs.declared.refusal.Found.{Found}
-use Rattle.vfs_names.specs.declared.refusal.Found.TheVariants as found
 use Rattle.item_core.specs.Content.{Known}
 use Rattle.memory_item.specs.Parts.{base_of}
 use Rattle.memory_item.specs.Whole.{Backs, FillsFrom, IsByte, IsLost, IsPresent, IsWhole}
@@ -44,7 +43,7 @@ moved : (tells : Type 0) (pairs : List (Fingerprint × List ℕ)) (at : Known �
 moved tells pairs at b c e w = subst (λ x. IsByte tells pairs at x) (sym e) w
 
 -- a byte that was got is the file's
-got : (tells : Type 0) (pairs : List (Fingerprint × List ℕ)) (at : Known → ℕ) (held : Option Fingerprint) (base_end : ℕ) (lost : Option Found) (base : Fingerprint × List ℕ)
+got : (tells : Type 0) (pairs : List (Fingerprint × List ℕ)) (at : Known → ℕ) (held : Option Fingerprint) (base_end : ℕ) (lost : Option Found) (base : Fingerprint × List ℕ × ℕ)
     (p c : ℕ) → Backs tells pairs held base_end lost base → (tells → c ≡ slice_index base.1 p)
     → ((known : Known) → at known ≡ slice_index (known.content base.0) p) → IsByte tells pairs at c
 got tells pairs at held base_end lost base p c b is gives = record {
@@ -52,12 +51,12 @@ got tells pairs at held base_end lost base p c b is gives = record {
   written = λ x all. absurd (not_always at base.0 p x gives all);
 }
 
-pub after_fill : (tells : Type 0) (pairs : List (Fingerprint × List ℕ)) (at : Known → ℕ → ℕ) (held : Option Fingerprint) (base_end : ℕ) (base : Fingerprint × List ℕ)
+pub after_fill : (tells : Type 0) (pairs : List (Fingerprint × List ℕ)) (at : Known → ℕ → ℕ) (held : Option Fingerprint) (base_end : ℕ) (base : Fingerprint × List ℕ × ℕ) (changes : ℕ)
     (lost lost' : Option Found) (part : Span) (here here' : List Span) (byte byte' : ℕ → ℕ)
-    → IsWhole tells pairs at held base_end (Some base) lost here byte → part.end ≤ base_end → IsLost base.0 lost'
+    → IsWhole tells pairs at held base_end (Some base) lost here byte → part.end ≤ base_end → IsLost changes lost'
     → FillsFrom tells base.1 part here here' byte byte'
-    → IsWhole tells pairs at held base_end (Some base) lost' here' byte'
-after_fill tells pairs at held base_end base lost lost' part here here' byte byte' w within other (source, is, f) = record {
+    → IsWhole tells pairs at held base_end (Some (base.0, base.1, changes)) lost' here' byte'
+after_fill tells pairs at held base_end base changes lost lost' part here here' byte byte' w within other (source, is, f) = record {
   backed = record { is_held = w.backed.is_held; within = w.backed.within; told = w.backed.told; other = other };
   present = λ p h. elim (cases_Bool (has here p)) [
     | inl t ↦ moved tells pairs (λ known. at known p) (byte p) (byte' p) (f.same p (inl t)) (w.present p (inl t))
@@ -74,18 +73,14 @@ after_fill tells pairs at held base_end base lost lost' part here here' byte byt
       got tells pairs (λ known. at known p) held base_end lost base p (byte' p) w.backed (λ t. n.1 ∙ is t p n.0) (w.absent p base.0 gone (omega arith) w.backed.is_held)
   fresh p gone (inr le) = moved tells pairs (λ known. at known p) (byte p) (byte' p) (f.same p (inr (past_end part p base_end within le))) (w.present p (inr le))
 
-still_other : (print : Fingerprint) (lost lost' : Option Found) → IsLost print lost → (lost' ≡ lost) ⊎ (lost' ≡ Some found.Changed) → IsLost print lost'
-still_other print lost lost' h (inl e) = subst (IsLost print) (sym e) h
-still_other print lost lost' h (inr e) = subst (IsLost print) (sym e) tt
-
-pub fetched : {O : Type 0} (print : O → Fingerprint) (bytes : O → List ℕ) (tells : Type 0) (pairs : List (Fingerprint × List ℕ)) (at : Known → ℕ → ℕ) (held : Option Fingerprint) (base_end : ℕ)
+pub fetched : {O : Type 0} (print : O → Fingerprint) (bytes : O → List ℕ) (changes : O → ℕ) (tells : Type 0) (pairs : List (Fingerprint × List ℕ)) (at : Known → ℕ → ℕ) (held : Option Fingerprint) (base_end : ℕ)
     (base : Option O) (o o' : O) (lost lost' : Option Found) (part : Span) (here here' : List Span) (byte byte' : ℕ → ℕ)
-    → IsWhole tells pairs at held base_end (base_of print bytes base) lost here byte → base ≡ Some o → print o' ≡ print o → bytes o' ≡ bytes o
-    → part.end ≤ base_end → (lost' ≡ lost) ⊎ (lost' ≡ Some found.Changed) → FillsFrom tells (bytes o) part here here' byte byte'
-    → IsWhole tells pairs at held base_end (base_of print bytes (Some o')) lost' here' byte'
-fetched print bytes tells pairs at held base_end base o o' lost lost' part here here' byte byte' w e same_print same_bytes within other f =
-    let before : IsWhole tells pairs at held base_end (Some (print o, bytes o)) lost here byte =
-    subst (λ b. IsWhole tells pairs at held base_end (base_of print bytes b) lost here byte) e w in
-    let after : IsWhole tells pairs at held base_end (Some (print o, bytes o)) lost' here' byte' =
-    after_fill tells pairs at held base_end (print o, bytes o) lost lost' part here here' byte byte' before within (still_other (print o) lost lost' before.backed.other other) f in
-    subst (λ (pair : Fingerprint × List ℕ). IsWhole tells pairs at held base_end (Some pair) lost' here' byte') (λ i. (sym same_print i, sym same_bytes i)) after
+    → IsWhole tells pairs at held base_end (base_of print bytes changes base) lost here byte → base ≡ Some o → print o' ≡ print o → bytes o' ≡ bytes o
+    → part.end ≤ base_end → IsLost (changes o') lost' → FillsFrom tells (bytes o) part here here' byte byte'
+    → IsWhole tells pairs at held base_end (base_of print bytes changes (Some o')) lost' here' byte'
+fetched print bytes changes tells pairs at held base_end base o o' lost lost' part here here' byte byte' w e same_print same_bytes within other f =
+    let before : IsWhole tells pairs at held base_end (Some (print o, bytes o, changes o)) lost here byte =
+    subst (λ b. IsWhole tells pairs at held base_end (base_of print bytes changes b) lost here byte) e w in
+    let after : IsWhole tells pairs at held base_end (Some (print o, bytes o, changes o')) lost' here' byte' =
+    after_fill tells pairs at held base_end (print o, bytes o, changes o) (changes o') lost lost' part here here' byte byte' before within other f in
+    subst (λ (pair : Fingerprint × List ℕ × ℕ). IsWhole tells pairs at held base_end (Some pair) lost' here' byte') (λ i. (sym same_print i, sym same_bytes i, changes o')) after

@@ -51,7 +51,7 @@ all_present here base_end pos n p none le lt = elim (cases_lt p base_end) [
   inside : p < base_end → is_in (record { start = pos; end = min (pos + n) base_end }) p ≡ true
   inside below = grind (arith, nat_tests)
 
-pub shown : (tells : Type 0) (pairs : List (Fingerprint × List ℕ)) (past : List Entry) (base : Option (Fingerprint × List ℕ)) (lost : Option Found) (here : List Span) (byte : ℕ → ℕ)
+pub shown : (tells : Type 0) (pairs : List (Fingerprint × List ℕ)) (past : List Entry) (base : Option (Fingerprint × List ℕ × ℕ)) (lost : Option Found) (here : List Span) (byte : ℕ → ℕ)
     (pos len n : ℕ) (found : List ℕ) → IsContent tells pairs past base lost here byte
     → IsFirstRunIn (lacks here) (record { start = pos; end = object_end past pos len }) None
     → n ≡ min len (size_of past - pos) → found ≡ bytes_from byte pos n → IsShown tells pairs past pos len found
@@ -67,7 +67,7 @@ shown tells pairs past base lost here byte pos len n found w none size is =
       at p le lt = w.present p (all_present here (base_end_of past) pos (min len (size_of past - pos)) p none le lt)
 
 -- the same, of a file as a caller sees it
-pub shown_in : (tells : Type 0) (item inside : Item) (base : Option (Fingerprint × List ℕ)) (lost : Option Found) (byte : ℕ → ℕ) (pos len n : ℕ) (found : List ℕ)
+pub shown_in : (tells : Type 0) (item inside : Item) (base : Option (Fingerprint × List ℕ × ℕ)) (lost : Option Found) (byte : ℕ → ℕ) (pos len n : ℕ) (found : List ℕ)
     → inside ≡ item → IsContent tells inside.pairs inside.log.past base lost inside.here byte → IsNeeded item pos len None
     → n ≡ min len (size_of inside.log.past - pos) → found ≡ bytes_from byte pos n → IsShown tells item.pairs item.log.past pos len found
 shown_in tells item inside base lost byte pos len n found same w none size is =

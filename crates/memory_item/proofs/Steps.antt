@@ -28,7 +28,7 @@ use Rattle.memory_item.specs.Item.{in_file}
 use Rattle.memory_item.specs.Parts.{pairs_of}
 use Rattle.memory_item.specs.Whole.{Adds, IsBacked, IsByte, IsContent, IsPresent, IsWhole}
 
-pub same_past : (tells : Type 0) (pairs : List (Fingerprint × List ℕ)) (past past' : List Entry) (base : Option (Fingerprint × List ℕ)) (lost : Option Found) (here : List Span) (byte : ℕ → ℕ)
+pub same_past : (tells : Type 0) (pairs : List (Fingerprint × List ℕ)) (past past' : List Entry) (base : Option (Fingerprint × List ℕ × ℕ)) (lost : Option Found) (here : List Span) (byte : ℕ → ℕ)
     → IsContent tells pairs past base lost here byte → past' ≡ past → IsContent tells pairs past' base lost here byte
 same_past tells pairs past past' base lost here byte w e = subst (λ h. IsContent tells pairs h base lost here byte) (sym e) w
 
@@ -46,28 +46,28 @@ none_for by (refusals.Stale held what) fault stale = absurd (stale held what ref
 none_for by _ fault stale = refl
 
 pub after_opened : (tells : Type 0) (pairs : List (Fingerprint × List ℕ)) (past past' : List Entry) (x : Entry) (by : By) (under : Bool) (access : Access)
-    (base : Option (Fingerprint × List ℕ)) (lost : Option Found) (here : List Span) (byte : ℕ → ℕ)
+    (base : Option (Fingerprint × List ℕ × ℕ)) (lost : Option Found) (here : List Span) (byte : ℕ → ℕ)
     → IsContent tells pairs past base lost here byte → past' ≡ x ∷ past → x ≡ in_file by under (kinds.Opened access)
     → IsContent tells pairs past' base lost here byte
 after_opened tells pairs past past' x by under access base lost here byte w e is =
     subst (λ h. IsContent tells pairs h base lost here byte) (sym (e ∙ ap (λ y. y ∷ past) is)) w
 
 pub after_closed : (tells : Type 0) (pairs : List (Fingerprint × List ℕ)) (past past' : List Entry) (x : Entry) (by : By) (under : Bool)
-    (base : Option (Fingerprint × List ℕ)) (lost : Option Found) (here : List Span) (byte : ℕ → ℕ)
+    (base : Option (Fingerprint × List ℕ × ℕ)) (lost : Option Found) (here : List Span) (byte : ℕ → ℕ)
     → IsContent tells pairs past base lost here byte → past' ≡ x ∷ past → x ≡ in_file by under (kinds.Closed)
     → IsContent tells pairs past' base lost here byte
 after_closed tells pairs past past' x by under base lost here byte w e is =
     subst (λ h. IsContent tells pairs h base lost here byte) (sym (e ∙ ap (λ y. y ∷ past) is)) w
 
 pub after_read : (tells : Type 0) (pairs : List (Fingerprint × List ℕ)) (past past' : List Entry) (x : Entry) (by : By) (under : Bool) (pos len : ℕ)
-    (base : Option (Fingerprint × List ℕ)) (lost : Option Found) (here : List Span) (byte : ℕ → ℕ)
+    (base : Option (Fingerprint × List ℕ × ℕ)) (lost : Option Found) (here : List Span) (byte : ℕ → ℕ)
     → IsContent tells pairs past base lost here byte → past' ≡ x ∷ past → x ≡ in_file by under (kinds.Read pos len)
     → IsContent tells pairs past' base lost here byte
 after_read tells pairs past past' x by under pos len base lost here byte w e is =
     subst (λ h. IsContent tells pairs h base lost here byte) (sym (e ∙ ap (λ y. y ∷ past) is)) w
 
 pub after_refused : (tells : Type 0) (pairs : List (Fingerprint × List ℕ)) (past past' : List Entry) (x : Entry) (by : By) (under : Bool) (verb : Verb) (why : Refusal)
-    (base : Option (Fingerprint × List ℕ)) (lost : Option Found) (here : List Span) (byte : ℕ → ℕ)
+    (base : Option (Fingerprint × List ℕ × ℕ)) (lost : Option Found) (here : List Span) (byte : ℕ → ℕ)
     → IsContent tells pairs past base lost here byte → past' ≡ x ∷ past → x ≡ in_file by under (kinds.Refused verb why)
     → IsContent tells pairs past' base lost here byte
 after_refused tells pairs past past' x by under verb why base lost here byte w e is =
@@ -103,9 +103,9 @@ after_create tells pairs past past' x by under here byte e is none zeros = subst
     (subst (λ h. IsContent tells pairs h None None [] byte) (sym (e ∙ ap (λ y. y ∷ past) is)) (blank tells pairs (λ known p. 0) byte (λ known p. refl) zeros))
 
 -- what an object is to give that a file holds anew
-adopted : (tells : Type 0) (pairs : List (Fingerprint × List ℕ)) (past : List Entry) (by : By) (under : Bool) (print : Fingerprint) (bytes : List ℕ) (byte : ℕ → ℕ)
-    → ((p : ℕ) → byte p ≡ 0) → IsContent tells ((print, bytes) ∷ pairs) (in_file by under (kinds.Adopt print) ∷ past) (Some (print, bytes)) None [] byte
-adopted tells pairs past by under print bytes byte zeros = record {
+adopted : (tells : Type 0) (pairs : List (Fingerprint × List ℕ)) (past : List Entry) (by : By) (under : Bool) (print : Fingerprint) (bytes : List ℕ) (changes : ℕ) (byte : ℕ → ℕ)
+    → ((p : ℕ) → byte p ≡ 0) → IsContent tells ((print, bytes) ∷ pairs) (in_file by under (kinds.Adopt print) ∷ past) (Some (print, bytes, changes)) None [] byte
+adopted tells pairs past by under print bytes changes byte zeros = record {
   backed = record { is_held = refl; within = omega arith; told = λ known k. k.0; other = tt };
   present = there;
   absent = λ p base no lt held known. inside p base lt held known;
@@ -127,13 +127,13 @@ adopted tells pairs past by under print bytes byte zeros = record {
       → byte_at known (in_file by under (kinds.Adopt print) ∷ past) p ≡ slice_index (known.content base) p
   inside p base lt held known = rw (before_end p lt) (ap (λ b. slice_index (known.content b) p) (same_print base held))
 
-pub after_adopt : (tells : Type 0) (pairs pairs' : List (Fingerprint × List ℕ)) (past past' : List Entry) (x : Entry) (by : By) (under : Bool) (print : Fingerprint) (bytes : List ℕ) (here : List Span) (byte : ℕ → ℕ)
+pub after_adopt : (tells : Type 0) (pairs pairs' : List (Fingerprint × List ℕ)) (past past' : List Entry) (x : Entry) (by : By) (under : Bool) (print : Fingerprint) (bytes : List ℕ) (changes : ℕ) (here : List Span) (byte : ℕ → ℕ)
     → pairs' ≡ (print, bytes) ∷ pairs → past' ≡ x ∷ past → x ≡ in_file by under (kinds.Adopt print) → here ≡ [] → ((p : ℕ) → byte p ≡ 0)
-    → IsContent tells pairs' past' (Some (print, bytes)) None here byte
-after_adopt tells pairs pairs' past past' x by under print bytes here byte more e is none zeros =
-    subst (λ ps. IsContent tells ps past' (Some (print, bytes)) None here byte) (sym more)
-    (subst (λ h. IsContent tells ((print, bytes) ∷ pairs) past' (Some (print, bytes)) None h byte) (sym none)
-    (subst (λ h. IsContent tells ((print, bytes) ∷ pairs) h (Some (print, bytes)) None [] byte) (sym (e ∙ ap (λ y. y ∷ past) is)) (adopted tells pairs past by under print bytes byte zeros)))
+    → IsContent tells pairs' past' (Some (print, bytes, changes)) None here byte
+after_adopt tells pairs pairs' past past' x by under print bytes changes here byte more e is none zeros =
+    subst (λ ps. IsContent tells ps past' (Some (print, bytes, changes)) None here byte) (sym more)
+    (subst (λ h. IsContent tells ((print, bytes) ∷ pairs) past' (Some (print, bytes, changes)) None h byte) (sym none)
+    (subst (λ h. IsContent tells ((print, bytes) ∷ pairs) h (Some (print, bytes, changes)) None [] byte) (sym (e ∙ ap (λ y. y ∷ past) is)) (adopted tells pairs past by under print bytes changes byte zeros)))
 
 agree_same : (a b : Fingerprint) → agree a b ≡ true → a ≡ b
 agree_same a b h =
@@ -146,7 +146,7 @@ held_same : (held : Option Fingerprint) (print : Fingerprint) → holds held pri
 held_same None print h = absurd (true≢false (sym h))
 held_same (Some other) print h = ap (λ p. Some p) (agree_same other print h)
 
-backed_within : (tells : Type 0) (pairs : List (Fingerprint × List ℕ)) (held : Option Fingerprint) (base_end : ℕ) (lost : Option Found) (base : Option (Fingerprint × List ℕ)) (print : Fingerprint)
+backed_within : (tells : Type 0) (pairs : List (Fingerprint × List ℕ)) (held : Option Fingerprint) (base_end : ℕ) (lost : Option Found) (base : Option (Fingerprint × List ℕ × ℕ)) (print : Fingerprint)
     → IsBacked tells pairs held base_end lost base → held ≡ Some print → base_end ≤ print.size
 backed_within tells pairs held base_end lost None print b h = absurd (cc (b.0, h))
 backed_within tells pairs held base_end lost (Some base) print b h =
@@ -156,22 +156,22 @@ backed_within tells pairs held base_end lost (Some base) print b h =
       same : ◌≡◌ {A = Option Fingerprint} (Some base.0) (Some print) → base.0 ≡ print
       same q = cc
 
-bound : (tells : Type 0) (pairs : List (Fingerprint × List ℕ)) (at : Known → ℕ → ℕ) (held : Option Fingerprint) (base_end : ℕ) (base : Option (Fingerprint × List ℕ)) (lost : Option Found) (here : List Span) (byte : ℕ → ℕ) (print : Fingerprint) (bytes : List ℕ)
+bound : (tells : Type 0) (pairs : List (Fingerprint × List ℕ)) (at : Known → ℕ → ℕ) (held : Option Fingerprint) (base_end : ℕ) (base : Option (Fingerprint × List ℕ × ℕ)) (lost : Option Found) (here : List Span) (byte : ℕ → ℕ) (print : Fingerprint) (bytes : List ℕ) (changes : ℕ)
     → IsWhole tells pairs at held base_end base lost here byte → held ≡ Some print
-    → IsWhole tells ((print, bytes) ∷ pairs) at held base_end (Some (print, bytes)) None here byte
-bound tells pairs at held base_end base lost here byte print bytes w h = record {
+    → IsWhole tells ((print, bytes) ∷ pairs) at held base_end (Some (print, bytes, changes)) None here byte
+bound tells pairs at held base_end base lost here byte print bytes changes w h = record {
   backed = record { is_held = h; within = backed_within tells pairs held base_end lost base print w.backed h; told = λ known k. k.0; other = tt };
   present = λ p there. let b = w.present p there in record { told = λ known k. b.told known k.1; written = b.written };
   absent = w.absent;
 }
 
-pub after_bind : (tells : Type 0) (pairs pairs' : List (Fingerprint × List ℕ)) (past past' : List Entry) (x : Entry) (by : By) (under : Bool) (base : Option (Fingerprint × List ℕ)) (lost : Option Found) (here : List Span) (byte : ℕ → ℕ) (print : Fingerprint) (bytes : List ℕ)
+pub after_bind : (tells : Type 0) (pairs pairs' : List (Fingerprint × List ℕ)) (past past' : List Entry) (x : Entry) (by : By) (under : Bool) (base : Option (Fingerprint × List ℕ × ℕ)) (lost : Option Found) (here : List Span) (byte : ℕ → ℕ) (print : Fingerprint) (bytes : List ℕ) (changes : ℕ)
     → IsContent tells pairs past base lost here byte → holds (held_by past) print ≡ true → pairs' ≡ (print, bytes) ∷ pairs → past' ≡ x ∷ past → x ≡ in_file by under (kinds.Bind print)
-    → IsContent tells pairs' past' (Some (print, bytes)) None here byte
-after_bind tells pairs pairs' past past' x by under base lost here byte print bytes w same more e is =
-    subst (λ ps. IsContent tells ps past' (Some (print, bytes)) None here byte) (sym more)
-    (subst (λ h. IsContent tells ((print, bytes) ∷ pairs) h (Some (print, bytes)) None here byte) (sym (e ∙ ap (λ y. y ∷ past) is))
-    (bound tells pairs (λ known p. byte_at known past p) (held_by past) (base_end_of past) base lost here byte print bytes w (held_same (held_by past) print same)))
+    → IsContent tells pairs' past' (Some (print, bytes, changes)) None here byte
+after_bind tells pairs pairs' past past' x by under base lost here byte print bytes changes w same more e is =
+    subst (λ ps. IsContent tells ps past' (Some (print, bytes, changes)) None here byte) (sym more)
+    (subst (λ h. IsContent tells ((print, bytes) ∷ pairs) h (Some (print, bytes, changes)) None here byte) (sym (e ∙ ap (λ y. y ∷ past) is))
+    (bound tells pairs (λ known p. byte_at known past p) (held_by past) (base_end_of past) base lost here byte print bytes changes w (held_same (held_by past) print same)))
 
 over : (pos end base_end p : ℕ) → p < base_end → nat_le pos p && nat_lt p (min end base_end) ≡ false → nat_le pos p && nat_lt p end ≡ false
 over pos end base_end p lt h = grind (arith, nat_tests)
@@ -192,7 +192,7 @@ left_one true b h clear = refl
 left_one false b h clear = absurd (true≢false (sym h ∙ clear))
 
 written_over : (tells : Type 0) (pairs : List (Fingerprint × List ℕ)) (past : List Entry) (by : By) (under : Bool) (pos : ℕ) (payload : Payload)
-    (base : Option (Fingerprint × List ℕ)) (lost : Option Found) (here here' : List Span) (byte byte' : ℕ → ℕ)
+    (base : Option (Fingerprint × List ℕ × ℕ)) (lost : Option Found) (here here' : List Span) (byte byte' : ℕ → ℕ)
     → IsContent tells pairs past base lost here byte
     → ((p : ℕ) → byte' p ≡ written byte pos payload p) → Adds here here' (record { start = pos; end = min (pos + payload_len payload) (base_end_of past) })
     → IsContent tells pairs (in_file by under (kinds.Write pos payload) ∷ past) base lost here' byte'
@@ -220,7 +220,7 @@ written_over tells pairs past by under pos payload base lost here here' byte byt
   ]
 
 pub after_write : (tells : Type 0) (pairs : List (Fingerprint × List ℕ)) (past past' : List Entry) (x : Entry) (by : By) (under : Bool) (pos : ℕ) (payload : Payload)
-    (base : Option (Fingerprint × List ℕ)) (lost : Option Found) (here here' : List Span) (byte byte' : ℕ → ℕ)
+    (base : Option (Fingerprint × List ℕ × ℕ)) (lost : Option Found) (here here' : List Span) (byte byte' : ℕ → ℕ)
     → IsContent tells pairs past base lost here byte → past' ≡ x ∷ past → x ≡ in_file by under (kinds.Write pos payload)
     → ((p : ℕ) → byte' p ≡ written byte pos payload p) → Adds here here' (record { start = pos; end = min (pos + payload_len payload) (base_end_of past) })
     → IsContent tells pairs past' base lost here' byte'

@@ -70,12 +70,12 @@ abbrev pub Loses : {T : Type 0} → Result T Refusal → Option Found → Option
 Loses (Err (refusals.Stale held what)) old new = new ≡ Some what
 Loses result old new = new ≡ old
 
--- why a read is refused for the object: it failed; or it was found to be another one, now or before, and it is the one
--- that the file holds
+-- why a read is refused for the object: it failed; or it was found to be changed, in this call or before, as its count of
+-- changes tells, and it is the one that the file holds
 abbrev pub IsObjectCause : Behind → Behind → Refusal → Type 0
 IsObjectCause old new refusals.RemoteFault = (old.lost ≡ None) × Rose old.faults new.faults
-IsObjectCause old new (refusals.Stale held what) = (held ≡ old.print)
-    × ((old.lost ≡ Some what) ⊎ ((old.lost ≡ None) × (what ≡ found.Changed) × Rose old.changes new.changes))
+IsObjectCause old new (refusals.Stale held what) = (held ≡ old.print) × (what ≡ found.Changed)
+    × (((old.lost ≡ Some what) × Rose 0 old.changes) ⊎ ((old.lost ≡ None) × Rose old.changes new.changes))
 IsObjectCause old new _ = ⊥
 
 -- a read is refused for the object only where it needs bytes of it that aren't here

@@ -9,10 +9,10 @@ use Rattle.memory_item.specs.Item.{Behind}
 abbrev pub pairs_of : {O : Type 0} → (O → Fingerprint) → (O → List ℕ) → List (Snapshot O) → List (Fingerprint × List ℕ)
 pairs_of {O} print bytes given = map (λ (s : Snapshot O). (print s.value, bytes s.value)) (reverse given)
 
--- the fingerprint and bytes of the object that is there
-abbrev pub base_of : {O : Type 0} → (O → Fingerprint) → (O → List ℕ) → Option O → Option (Fingerprint × List ℕ)
-base_of print bytes None = None
-base_of print bytes (Some o) = Some (print o, bytes o)
+-- the fingerprint and bytes of the object that is there, and how often it was found to be another one
+abbrev pub base_of : {O : Type 0} → (O → Fingerprint) → (O → List ℕ) → (O → ℕ) → Option O → Option (Fingerprint × List ℕ × ℕ)
+base_of print bytes changes None = None
+base_of print bytes changes (Some o) = Some (print o, bytes o, changes o)
 
 -- what an object tells that stands behind a file
 abbrev pub behind_with : {O : Type 0} → (O → Fingerprint) → (O → ℕ) → (O → ℕ) → (O → List (ℕ × ℕ)) → O → Option Found → Behind

@@ -4,10 +4,11 @@ use Rattle.byte_ranges.specs.Ranges.{has, is_in}
 use Rattle.byte_ranges.specs.declared.Span.{Span}
 use Rattle.item_core.specs.Content.{Known, byte_at}
 use Rattle.item_core.specs.History.{base_end_of, held_by}
-use Rattle.item_core.specs.Legal.{IsOther}
 use Rattle.item_core.specs.declared.entry.Entry.{Entry}
 use Rattle.vfs_names.specs.declared.fingerprint.Fingerprint.{Fingerprint}
 use Rattle.vfs_names.specs.declared.refusal.Found.{Found}
+use Rattle.vfs_names.specs.declared.refusal.Found.TheVariants as found
+use Rattle.vfs_outside.specs.Causes.{Rose}
 use Rattle.memory_item.specs.Known.{Holds}
 
 -- the byte is the one that the objects that were handed out give, and the one that was written where it was
@@ -15,20 +16,20 @@ pub record IsByte (tells : Type 0) (pairs : List (Fingerprint × List ℕ)) (at 
   pub told : (known : Known) → Holds tells pairs known → byte ≡ at known
   pub written : (b : ℕ) → ((known : Known) → at known ≡ b) → byte ≡ b
 
--- what was found in an object's place isn't the object
-abbrev pub IsLost : Fingerprint → Option Found → Type 0
-IsLost print None = Unit {0}
-IsLost print (Some what) = IsOther print what
+-- an object that is lost was found to be changed, which its count of changes tells
+abbrev pub IsLost : ℕ → Option Found → Type 0
+IsLost changes None = Unit {0}
+IsLost changes (Some what) = (what ≡ found.Changed) × Rose 0 changes
 
 -- the object is the one that the file holds, and gives all that it is to give
-pub record Backs (tells : Type 0) (pairs : List (Fingerprint × List ℕ)) (held : Option Fingerprint) (base_end : ℕ) (lost : Option Found) (base : Fingerprint × List ℕ) : Type 0 where
+pub record Backs (tells : Type 0) (pairs : List (Fingerprint × List ℕ)) (held : Option Fingerprint) (base_end : ℕ) (lost : Option Found) (base : Fingerprint × List ℕ × ℕ) : Type 0 where
   pub is_held : held ≡ Some base.0
   pub within : base_end ≤ base.0.size
   pub told : (known : Known) → Holds tells pairs known → tells × (known.content base.0 ≡ base.1)
-  pub other : IsLost base.0 lost
+  pub other : IsLost base.2 lost
 
 -- a file without an object holds none, and none gives a byte of it
-abbrev pub IsBacked : Type 0 → List (Fingerprint × List ℕ) → Option Fingerprint → ℕ → Option Found → Option (Fingerprint × List ℕ) → Type 0
+abbrev pub IsBacked : Type 0 → List (Fingerprint × List ℕ) → Option Fingerprint → ℕ → Option Found → Option (Fingerprint × List ℕ × ℕ) → Type 0
 IsBacked tells pairs held base_end lost None = (held ≡ None) × (base_end ≡ 0)
 IsBacked tells pairs held base_end lost (Some base) = Backs tells pairs held base_end lost base
 
@@ -37,14 +38,14 @@ abbrev pub IsPresent : List Span → ℕ → ℕ → Type 0
 IsPresent here base_end p = (has here p ≡ true) ⊎ (base_end ≤ p)
 
 -- the bytes in memory are the file's, and the others are those of the object that it holds
-pub record IsWhole (tells : Type 0) (pairs : List (Fingerprint × List ℕ)) (at : Known → ℕ → ℕ) (held : Option Fingerprint) (base_end : ℕ) (base : Option (Fingerprint × List ℕ)) (lost : Option Found) (here : List Span) (byte : ℕ → ℕ) : Type 0 where
+pub record IsWhole (tells : Type 0) (pairs : List (Fingerprint × List ℕ)) (at : Known → ℕ → ℕ) (held : Option Fingerprint) (base_end : ℕ) (base : Option (Fingerprint × List ℕ × ℕ)) (lost : Option Found) (here : List Span) (byte : ℕ → ℕ) : Type 0 where
   pub backed : IsBacked tells pairs held base_end lost base
   pub present : (p : ℕ) → IsPresent here base_end p → IsByte tells pairs (λ known. at known p) (byte p)
   pub absent : (p : ℕ) (print : Fingerprint) → has here p ≡ false → p < base_end → held ≡ Some print
       → (known : Known) → at known p ≡ slice_index (known.content print) p
 
 -- the same, of a file with this history
-abbrev pub IsContent : Type 0 → List (Fingerprint × List ℕ) → List Entry → Option (Fingerprint × List ℕ) → Option Found → List Span → (ℕ → ℕ) → Type 0
+abbrev pub IsContent : Type 0 → List (Fingerprint × List ℕ) → List Entry → Option (Fingerprint × List ℕ × ℕ) → Option Found → List Span → (ℕ → ℕ) → Type 0
 IsContent tells pairs past base lost here byte =
     IsWhole tells pairs (λ known p. byte_at known past p) (held_by past) (base_end_of past) base lost here byte
 

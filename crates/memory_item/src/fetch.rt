@@ -4,7 +4,7 @@ ghost use Rattle.sparse_bytes.specs.Bytes.{byte_of};
 ghost use Rattle.vfs_outside.specs.Object.{HasReason, IsPart, SameObject};
 ghost use Rattle.memory_item.specs.Answers.{Asks, IsObjectCause, Loses};
 ghost use Rattle.memory_item.specs.Parts.{behind_with};
-ghost use Rattle.memory_item.specs.Whole.{Fills, FillsFrom};
+ghost use Rattle.memory_item.specs.Whole.{Fills, FillsFrom, IsLost};
 
 use byte_ranges::{RangeSet, Span};
 use sparse_bytes::SparseBytes;
@@ -39,12 +39,13 @@ pub(crate) fn bring<O: Object>(
     requires end { end ≤ (O.print_of object.old).size }
     requires small { end ≤ 2 ^ 40 }
     requires len { part.end ≤ part.start + 131072 }
+    requires lost { IsLost (O.changes object.old) lost.old }
     ensures same { SameObject O.bytes O.print_of O.path object.old object.new }
     ensures faults { O.faults object.old ≤ O.faults object.new }
     ensures changes { O.changes object.old ≤ O.changes object.new }
     ensures asks { Asks ((part.start, end) ∷ []) (O.asked object.old) (O.asked object.new) result }
     ensures loses { Loses result lost.old lost.new }
-    ensures lost { (lost.new ≡ lost.old) ⊎ (lost.new ≡ Some Found.Changed) }
+    ensures lost { IsLost (O.changes object.new) lost.new }
     ensures had { OnOk result (lost.old ≡ None) }
     ensures causes { IfErr result (λ why. (why ≡ Refusal.NoMemory)
         ⊎ IsObjectCause (behind_with O.print_of O.faults O.changes O.asked object.old lost.old)

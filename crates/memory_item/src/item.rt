@@ -52,7 +52,7 @@ impl<O: Object> Model for MemoryItem<O> {
 
     ghost invariant = { λ f. IsContent O.tells (pairs_of O.print_of O.bytes f.given.items)
         f.core.past
-        (base_of O.print_of O.bytes f.base) f.lost f.here (byte_of f.bytes) };
+        (base_of O.print_of O.bytes O.changes f.base) f.lost f.here (byte_of f.bytes) };
 }
 
 impl<O: Object> MemoryItem<O> {

@@ -21,7 +21,7 @@ use Rattle.one_session.specs.Calls.{AnswersRead, IsOfObject, free_in}
 use Rattle.one_session.specs.Causes.{HasObjectCause}
 use Rattle.one_session.specs.Did.{Did}
 use Rattle.one_session.specs.Sound.{IsSound}
-use Rattle.one_session.specs.State.{History, State, behind_in, entries_in, file_at, item_at, names_in}
+use Rattle.one_session.specs.State.{History, State, Step, behind_in, entries_in, file_at, item_at, names_in}
 use Rattle.one_session.specs.Views.{add_to, refused_place}
 use Rattle.one_session.specs.Whole.{IsUpTo}
 use Rattle.one_session.specs.declared.handle.Handle.{Handle}
@@ -113,10 +113,10 @@ refused_did holds by done s t h pos len n k why old new own cause answer at_tree
         bare_why (inr x) = inr (inr (inr (inr (inr (bare_is done refusals.NoMemory (answer ∙ ap reply.Refused x) at_tree (at_file ∙ a.placed))))))
 
 -- and why
-pub refused_cause : (done : Record) (s t : State) (k : Handle) (handle : Option Handle) (old new : Item) (pos len : ℕ) (why : Refusal) → handle ≡ Some k → IsWhy old new pos len why → done.reply ≡ reply.Refused why
-    → behind_in s.behind k.item ≡ old.behind → behind_in t.behind k.item ≡ new.behind
-    → (told : Refusal) → done.reply ≡ reply.Refused told → IsOfObject told → HasObjectCause handle told s t
-refused_cause done s t k handle old new pos len why opened cause answer had has told e of = subst (λ w. HasObjectCause handle w s t) same (tell cause) where
+pub refused_cause : (done : Record) (step : Step) (k : Handle) (handle : Option Handle) (old new : Item) (pos len : ℕ) (why : Refusal) → handle ≡ Some k → IsWhy old new pos len why → done.reply ≡ reply.Refused why
+    → behind_in step.before k.item ≡ old.behind → behind_in step.after k.item ≡ new.behind
+    → (told : Refusal) → done.reply ≡ reply.Refused told → IsOfObject told → HasObjectCause handle told step
+refused_cause done step k handle old new pos len why opened cause answer had has told e of = subst (λ w. HasObjectCause handle w step) same (tell cause) where
   same : why ≡ told
   same = let x : reply.Refused why ≡ reply.Refused told = sym answer ∙ e in cc
 
@@ -126,7 +126,7 @@ refused_cause done s t k handle old new pos len why opened cause answer had has 
   never a b e (inr x) (inl y) = absurd (cc)
   never a b e (inr x) (inr y) = let z = y.2 in absurd (cc)
 
-  tell : IsWhy old new pos len why → HasObjectCause handle why s t
+  tell : IsWhy old new pos len why → HasObjectCause handle why step
   tell (inl x) = never why told same (inl x) of
   tell (inr (inl x)) = never why told same (inr x) of
   tell (inr (inr x)) = record { opened = k; is = opened; before = x.before; after = x.after; had = had ∙ x.had; has_now = has ∙ x.has_now; cause = x.cause }

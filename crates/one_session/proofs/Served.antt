@@ -16,12 +16,12 @@ use Rattle.session_script.specs.declared.call.Call.TheVariants as call
 use Rattle.session_script.specs.declared.call.CallLine.{CallLine}
 use Rattle.session_text.specs.declared.reply.Record.{Record}
 use Rattle.one_session.specs.Calls.{TreeDoes}
-use Rattle.one_session.specs.Causes.{CauseOf, HasRemoteCause, ReadCause}
+use Rattle.one_session.specs.Causes.{CauseOf, HasRemoteCause}
 use Rattle.one_session.specs.Did.{Did}
 use Rattle.one_session.specs.Matching.{entries_of}
 use Rattle.one_session.specs.Served.{Fits, Serves, in_file_of, in_tree_of}
 use Rattle.one_session.specs.Sound.{IsSound}
-use Rattle.one_session.specs.State.{History, State, entries_in, file_at}
+use Rattle.one_session.specs.State.{History, State, Step, entries_in, file_at}
 use Rattle.one_session.specs.Whole.{IsWhole, IsWholeFile}
 use Rattle.one_session.proofs.Serving.{goes, grown, holds_part}
 
@@ -42,14 +42,14 @@ fits_none holds s tree files table records = record {
 }
 
 -- what a call does to the histories and handles is told whatever was recorded
-pub did_with : (holds : Known → Type 0) (by : By) (c : Call) (done : Record) (s t : State) (r r' : List Record) (n n' : ℕ) → Did 1 holds by c done s t → Did 1 holds by c done (record s { records = r; room = n }) (record t { records = r'; room = n' })
-did_with holds by c done s t r r' n n' d = record { answered = d.answered; handles = d.handles; full = d.full; limit = d.limit; in_tree = d.in_tree; in_file = d.in_file }
+pub did_with : (holds : Known → Type 0) (by : By) (c : Call) (done : Record) (s t : State) (r r' : List Record) (x x' : List Step) (n n' : ℕ) → Did 1 holds by c done s t → Did 1 holds by c done (record s { records = r; steps = x; room = n }) (record t { records = r'; steps = x'; room = n' })
+did_with holds by c done s t r r' x x' n n' d = record { answered = d.answered; handles = d.handles; full = d.full; limit = d.limit; in_tree = d.in_tree; in_file = d.in_file }
 
 -- a call was served
-pub serves : (tells : Type 0) (more before : List (Fingerprint × List ℕ)) (by : By) (line : CallLine) (done : Record) (s t : State) (r r' : List Record) (n n' : ℕ) → by.who.actor ≡ Session 1 → done.line ≡ line.line → r' ≡ r ++ done ∷ []
-    → Did 1 (Holds tells (more ++ before)) by line.call done s t → Serves 1 tells before (more ++ before) by line done (record s { records = r; room = n }) (record t { records = r'; room = n' })
-serves tells more before by line done s t r r' n n' own numbered recorded d = let did = did_with (Holds tells (more ++ before)) by line.call done s t r r' n n' d in record {
-  fits = goes 1 (Holds tells before) (Holds tells (more ++ before)) (holds_part tells more before) by line done (record s { records = r; room = n }) (record t { records = r'; room = n' }) own numbered did recorded;
+pub serves : (tells : Type 0) (more before : List (Fingerprint × List ℕ)) (by : By) (line : CallLine) (done : Record) (s t : State) (r r' : List Record) (x x' : List Step) (n n' : ℕ) → by.who.actor ≡ Session 1 → done.line ≡ line.line → r' ≡ r ++ done ∷ []
+    → Did 1 (Holds tells (more ++ before)) by line.call done s t → Serves 1 tells before (more ++ before) by line done (record s { records = r; steps = x; room = n }) (record t { records = r'; steps = x'; room = n' })
+serves tells more before by line done s t r r' x x' n n' own numbered recorded d = let did = did_with (Holds tells (more ++ before)) by line.call done s t r r' x x' n n' d in record {
+  fits = goes 1 (Holds tells before) (Holds tells (more ++ before)) (holds_part tells more before) by line done (record s { records = r; steps = x; room = n }) (record t { records = r'; steps = x'; room = n' }) own numbered did recorded;
   records = recorded;
   limit = d.limit;
   more = (grown in_tree_of 1 (TreeDoes by t.files line.call done) done.tree s.tree t.tree d.in_tree).0;
@@ -79,8 +79,3 @@ whole s paths sound legal = record {
   named = sound.named;
   alone = sound.alone;
 }
-
--- the records and the room for more say nothing of why a read is refused
-pub read_caused : (c : Call) (done : Record) (s t : State) (r r' : List Record) (n n' : ℕ) → ReadCause c done s t → ReadCause c done (record s { records = r; room = n }) (record t { records = r'; room = n' })
-read_caused (call.Read h pos len) done s t r r' n n' cause = λ why e of. let k = cause why e of in record { opened = k.opened; is = k.is; before = k.before; after = k.after; had = k.had; has_now = k.has_now; cause = k.cause }
-read_caused _ done s t r r' n n' cause = tt

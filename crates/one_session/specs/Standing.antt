@@ -11,12 +11,12 @@ use Rattle.one_session.specs.declared.store.Store.{Store}
 use Rattle.one_session.specs.Causes.{HasRemoteCause, ReadCause, ends_gone}
 use Rattle.one_session.specs.Did.{Did}
 use Rattle.one_session.specs.Sound.{IsSound}
-use Rattle.one_session.specs.State.{State}
+use Rattle.one_session.specs.State.{State, Step, file_at}
 use Rattle.one_session.specs.Views.{behind_all, given_all, histories}
 
 -- the state with these records, and room for more of them
-abbrev pub state_of : {O S : Type 0} → Store O S → List Record → ℕ → State
-state_of s records room = record {
+abbrev pub state_of : {O S : Type 0} → Store O S → List Record → List Step → ℕ → State
+state_of s records steps room = record {
   tree = s.tree.entries;
   files = histories s.files.items;
   behind = behind_all s.files.items;
@@ -24,6 +24,7 @@ state_of s records room = record {
   limit = s.files.limit;
   table = s.table.items;
   records = records;
+  steps = steps;
   room = room;
 }
 
@@ -33,13 +34,17 @@ pub record IsSoundStore {O S : Type 0} (s : Store O S) : Type 0 where
   pub limit : s.tree.limit ≡ s.files.limit
   pub settled : (path : List ℕ) → ends_gone (reverse s.tree.entries) path ≡ false
 
+-- what a call did to the objects behind the files
+abbrev pub step_between : {O S : Type 0} → Store O S → Store O S → Step
+step_between old new = record { before = behind_all old.files.items; after = behind_all new.files.items }
+
 -- what is recorded of a call of this line
 abbrev pub recorded : ℕ → Outcome → Record
 recorded line outcome = record { line = line; reply = outcome.reply; tree = outcome.tree; file = outcome.file }
 
 -- a call by this maker was answered so, and did what it then does
 abbrev pub Answered : {O S : Type 0} → (Known → Type 0) → By → Call → Outcome → Store O S → Store O S → Type 0
-Answered holds by call outcome old new = (line : ℕ) → Did 1 holds by call (recorded line outcome) (state_of old [] 0) (state_of new [] 0)
+Answered holds by call outcome old new = (line : ℕ) → Did 1 holds by call (recorded line outcome) (state_of old [] [] 0) (state_of new [] [] 0)
 
 -- a refusal for the remote has its cause
 abbrev pub IsCaused : {O S : Type 0} → Call → Outcome → Store O S → Outside → Outside → Type 0
@@ -47,4 +52,4 @@ IsCaused call outcome s old new = (line : ℕ) → HasRemoteCause call (recorded
 
 -- and so has a refusal for an object
 abbrev pub IsReadCaused : {O S : Type 0} → Call → Outcome → Store O S → Store O S → Type 0
-IsReadCaused call outcome old new = (line : ℕ) → ReadCause call (recorded line outcome) (state_of old [] 0) (state_of new [] 0)
+IsReadCaused call outcome old new = (line : ℕ) → ReadCause call (recorded line outcome) (file_at old.table.items) (step_between old new)

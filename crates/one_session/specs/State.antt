@@ -26,9 +26,14 @@ names_in files item = (history_in files item).names
 abbrev pub behind_in : List (Option Behind) → ℕ → Option Behind
 behind_in behind item = slice_index_or behind item None
 
+-- the objects behind the files, by number, before a call and after it
+pub record Step : Type 0 where
+  pub before : List (Option Behind)
+  pub after : List (Option Behind)
+
 -- The tree's history; the files' histories by number; the object behind each file, and the fingerprints and bytes of the
 -- objects that each was given; the most places that each history may have; what each handle has open; the records, oldest
--- first, and for how many more records there is room.
+-- first, beside each what its call did to the objects, and for how many more records there is room.
 pub record State : Type 0 where
   pub tree : List TreeEntry
   pub files : List History
@@ -37,6 +42,7 @@ pub record State : Type 0 where
   pub limit : ℕ
   pub table : List (Option Handle)
   pub records : List Record
+  pub steps : List Step
   pub room : ℕ
 
 -- what a handle has open

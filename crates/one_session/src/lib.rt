@@ -13,6 +13,7 @@ mod paths;
 mod plan;
 mod session;
 mod start;
+mod step;
 mod store;
 mod tree;
 mod tree_entry;
@@ -22,6 +23,7 @@ pub use laws::what_a_call_does_matches;
 pub use log::EpochLog;
 pub use memory_item::FileLog;
 pub use session::OneSession;
+pub use step::Step;
 
 #[cfg(test)]
 mod tests;

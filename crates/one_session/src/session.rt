@@ -3,18 +3,19 @@ ghost use Rattle.vfs_names.specs.declared.fingerprint.Fingerprint.{Fingerprint};
 ghost use Rattle.vfs_names.specs.declared.who.Actor.TheVariants.{Session};
 ghost use Rattle.session_text.specs.declared.reply.Record.{Record};
 ghost use Rattle.memory_item.specs.Known.{Holds};
-ghost use Rattle.one_session.specs.Causes.{AreGiven, HasRemoteCause, ReadCause};
+ghost use Rattle.one_session.specs.Causes.{AreGiven, HasRemoteCause, TakesStep};
 ghost use Rattle.one_session.specs.Logs.{history_of};
 ghost use Rattle.one_session.specs.Served.{Fits, IsServable, Serves};
 ghost use Rattle.one_session.specs.Whole.{IsUpTo, IsWhole};
 
-use crate::EpochLog;
 use crate::outcome::Outcome;
 use crate::store::Store;
+use crate::{EpochLog, Step};
 use session_script::CallLine;
 use session_text::Record;
 use std::alloc::Global;
 use std::marker::Model;
+use std::snapshot::Snapshot;
 use vfs_names::{By, NoMemory};
 use vfs_outside::{Object, Remote};
 
@@ -23,17 +24,18 @@ use vfs_outside::{Object, Remote};
 pub struct OneSession<O: Object> {
     store: Store<O>,
     records: Vec<Record>,
+    steps: Vec<Step<O>>,
 }
 
 impl<O: Object> Model for OneSession<O> {
-    ghost use Rattle.std.specs.Prelude.{◌-◌, vec_len, vec_capacity};
+    ghost use Rattle.std.specs.Prelude.{◌-◌, min, vec_len, vec_capacity};
     ghost use Rattle.one_session.specs.Standing.{IsSoundStore, state_of};
     ghost use Rattle.one_session.specs.State.{State};
 
     ghost Value = { State };
 
-    ghost view = { λ s. state_of s.store s.records.items
-        (vec_capacity s.records - vec_len s.records) };
+    ghost view = { λ s. state_of s.store s.records.items s.steps.items
+        (min (vec_capacity s.records - vec_len s.records) (vec_capacity s.steps - vec_len s.steps)) };
 
     ghost invariant = { λ s. IsSoundStore s.store };
 }
@@ -46,11 +48,14 @@ impl<O: Object> OneSession<O> {
         ensures limit { IfOk result (λ s. s.limit ≡ limit) }
         ensures none { IfOk result (λ s. s.files ≡ []) }
         ensures given { IfOk result (λ s. s.pairs ≡ []) }
+        ensures untouched { IfOk result (λ s. s.behind ≡ []) }
+        ensures steps { IfOk result (λ s. s.steps ≡ []) }
     {
         match Store::new(alloc, limit) {
             Ok(store) => Ok(OneSession {
                 store,
                 records: Vec::new(alloc),
+                steps: Vec::new(alloc),
             }),
             Err(NoMemory) => Err(NoMemory),
         }
@@ -60,10 +65,14 @@ impl<O: Object> OneSession<O> {
     pub fn reserve(&mut self, calls: usize) -> Result<(), NoMemory>
         ensures ok { OnOk result (self.new ≡ record self.old { room = self.new.room }) }
         ensures room { OnOk result (calls ≤ self.new.room) }
-        ensures err { OnErr result (self.new ≡ self.old) }
+        ensures err { OnErr result (self.new ≡ record self.old { room = self.new.room }) }
+        ensures kept { self.old.room ≤ self.new.room }
     {
         match self.records.reserve(calls) {
-            Ok(()) => Ok(()),
+            Ok(()) => match self.steps.reserve(calls) {
+                Ok(()) => Ok(()),
+                Err(_) => Err(NoMemory),
+            },
             Err(_) => Err(NoMemory),
         }
     }
@@ -89,12 +98,14 @@ impl<O: Object> OneSession<O> {
             by line.now done self.old self.new
             × HasRemoteCause line.now.call done self.new.tree (R.outside remote.old)
             (R.outside remote.new)
-            × ReadCause line.now.call done self.old self.new }
+            × TakesStep line.now.call done self.old self.new }
         ensures given { AreGiven O.tells (R.outside remote.new).handed self.new.pairs }
         ensures later { IsUpTo by self.new.files }
         ensures room { self.old.room ≤ self.new.room + 1 }
     {
+        let before = Snapshot::of(&self.store.files);
         let Outcome { reply, tree, file } = self.store.answer(alloc, remote, by, &line.call);
+        let after = Snapshot::of(&self.store.files);
         let done = Record {
             line: line.line,
             reply,
@@ -102,21 +113,28 @@ impl<O: Object> OneSession<O> {
             file,
         };
         self.records.push(done).unwrap();
+        self.steps.push(Step { before, after }).unwrap();
     }
 
     /// The histories and the records, handed over; takes no memory.
-    pub fn into_log(self) -> EpochLog
+    pub fn into_log(self) -> EpochLog<O>
         ensures tree { result.tree.items ≡ self.tree }
         ensures files { map history_of result.files.items ≡ self.files }
         ensures records { result.records.items ≡ self.records }
+        ensures steps { result.steps.items ≡ self.steps }
         ensures whole { IsWhole 1 self.tree self.files }
     {
-        let OneSession { store, records } = self;
+        let OneSession {
+            store,
+            records,
+            steps,
+        } = self;
         let Store { tree, files, .. } = store;
         EpochLog {
             tree: tree.into_entries(),
             files: files.into_logs(),
             records,
+            steps,
         }
     }
 }

@@ -70,6 +70,8 @@ module _ (tells : Type 0) (before after : ℕ) (old mid new : Outside) (more : L
     asked = p.asked;
     recorded = p.recorded;
     causes = causes_before p.served e.tree p.causes;
+    left = p.left;
+    steps = p.steps;
     matching = p.matching;
     whole = p.whole;
   }

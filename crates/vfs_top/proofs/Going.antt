@@ -1,6 +1,7 @@
 -- How a phase goes on from call to call.
 use Rattle.std.proofs.Common.{◌≡◌, ◌∙◌, ◌⊎◌, inl, inr, ℕ, zero, suc, ◌+◌, ◌<◌, ◌≤◌, ◌++◌, Option, None, Some, List, [], ◌∷◌, length, map, reverse, take, drop, get_or, add-one, ap, append_assoc, arith, drop-cons, length-append, refl, subst, sym}
 use Rattle.std.proofs.lemmas.Grind.{common_steps}
+use Rattle.std.proofs.lemmas.List.{reverse-append}
 use Rattle.std.specs.List.{AllByRecursion}
 use Rattle.std.specs.Prelude.{IsSomeAnd}
 use Rattle.vfs_names.specs.declared.fingerprint.Fingerprint.{Fingerprint}
@@ -15,11 +16,12 @@ use Rattle.session_script.specs.declared.call.What.{What}
 use Rattle.session_script.specs.declared.call.What.TheVariants as what
 use Rattle.session_script.specs.declared.call.CallLine.{CallLine}
 use Rattle.session_text.specs.declared.reply.Record.{Record}
-use Rattle.one_session.specs.Causes.{AreGiven, CauseOf, HandsBig, HasOpenCause, HasRemoteCause, IsUnshown, ends_gone}
-use Rattle.one_session.specs.Served.{Served, Serves}
-use Rattle.one_session.specs.State.{State}
+use Rattle.one_session.specs.Causes.{AreGiven, AreSteps, CauseOf, HandsBig, HasObjectCause, HasOpenCause, HasRemoteCause, IsUnshown, ReadCause, TakesStep, ends_gone}
+use Rattle.one_session.specs.Served.{Served, Serves, open_at}
+use Rattle.one_session.specs.State.{State, Step, file_at}
 use Rattle.one_session.specs.Tree.{shown}
 use Rattle.one_session.specs.Whole.{IsUpTo}
+use Rattle.one_session.specs.declared.handle.Handle.{Handle}
 use Rattle.vfs_top.specs.Phase.{IsGoing, ServesAsked, line_of, maker_at}
 
 take_front : {A : Type 0} (xs ys : List A) (k : ℕ) → k ≤ length xs → take k (xs ++ ys) ≡ take k xs
@@ -110,10 +112,33 @@ lines_more : (call : CallLine) (d : Served) (served : List Served) (line : Line)
     → map line_of (reverse served) ++ line ∷ left ≡ lines → map line_of (reverse (d ∷ served)) ++ left ≡ lines
 lines_more call d served line left lines e h = grind (arith, common_steps, e, h)
 
+-- why a read is refused, by the same handles
+cause_along : (opened opened' : ℕ → Option Handle) (c : Call) (done : Record) (step : Step) → ((h : ℕ) → opened h ≡ opened' h) → ReadCause c done opened step → ReadCause c done opened' step
+cause_along opened opened' (call.Read h pos len) done step e cause = λ why is of. subst (λ o. HasObjectCause o why step) (e h) (cause why is of)
+cause_along opened opened' (call.Open h path how) done step e cause = tt
+cause_along opened opened' (call.Write h pos payload) done step e cause = tt
+cause_along opened opened' (call.Size h size) done step e cause = tt
+cause_along opened opened' (call.Close h) done step e cause = tt
+cause_along opened opened' (call.Stat path) done step e cause = tt
+cause_along opened opened' (call.List path) done step e cause = tt
+cause_along opened opened' (call.MakeDir path) done step e cause = tt
+cause_along opened opened' (call.RemoveDir path) done step e cause = tt
+cause_along opened opened' (call.Unlink path) done step e cause = tt
+cause_along opened opened' (call.Rename from to) done step e cause = tt
+
+-- one call more was a step
+steps_more : (d : Served) (served : List Served) (s t : State) → ((h : ℕ) → file_at s.table h ≡ open_at served h) → TakesStep d.line.call d.done s t → AreSteps s.behind served (reverse s.steps) → AreSteps t.behind (d ∷ served) (reverse t.steps)
+steps_more d served s t handles x steps =
+    subst (λ l. AreSteps t.behind (d ∷ served) l) (sym (ap reverse x.added ∙ reverse-append s.steps (step ∷ [])))
+    (refl, cause_along (file_at s.table) (open_at served) d.line.call d.done step handles x.cause, steps)
+  where
+    step : Step
+    step = record { before = s.behind; after = t.behind }
+
 serve_call : (tells : Type 0) (moment : ℕ) (a b z : Outside) (lines left : List Line) (line : ℕ) (c : CallLine) (s t : State) (done : Record)
-    → IsGoing tells moment a b lines (record { line = line; what = what.Call c } ∷ left) s → Serves 1 tells b.handed z.handed (maker_at moment) c done s t → HasRemoteCause c.call done t.tree b z → AreGiven tells z.handed t.pairs
+    → IsGoing tells moment a b lines (record { line = line; what = what.Call c } ∷ left) s → Serves 1 tells b.handed z.handed (maker_at moment) c done s t → HasRemoteCause c.call done t.tree b z → TakesStep c.call done s t → AreGiven tells z.handed t.pairs
     → IsUpTo (maker_at moment) t.files → s.room ≤ t.room + 1 → IsGoing tells moment a z lines left t
-serve_call tells moment a b z lines left line c s t done p q h given u r =
+serve_call tells moment a b z lines left line c s t done p q h x given u r =
     let d : Served = record { by = maker_at moment; line = c; done = done } in
     let e : line_of d ≡ record { line = line; what = what.Call c } = ap (λ n. record { line = n; what = what.Call c }) (sym p.calls.0.0) in
     record {
@@ -128,6 +153,7 @@ serve_call tells moment a b z lines left line c s t done p q h given u r =
         later_cause c.call done t.tree a b z p.more p.faults p.changes p.handed h,
         subst (λ tree. AllByRecursion (λ (d : Served). HasRemoteCause d.line.call d.done tree a z) p.served) (sym q.grew) (causes_later p.served s.tree q.more a b z h.more p.causes h.faults h.changes h.handed),
       );
+      steps = steps_more d p.served s t p.fits.handles x p.steps;
       faults = omega (arith, p.faults, h.faults);
       changes = omega (arith, p.changes, h.changes);
       more = h.more ++ p.more;
@@ -144,7 +170,7 @@ next_call tells moment a b z lines left line s t p q v u r = next tells moment a
     next : (tells : Type 0) (moment : ℕ) (a b z : Outside) (lines left : List Line) (n : ℕ) (asked : What) (s t : State)
         → IsGoing tells moment a b lines (record { line = n; what = asked } ∷ left) s → ServesAsked tells (maker_at moment) asked s t b z → AreGiven tells z.handed t.pairs → IsUpTo (maker_at moment) t.files → s.room ≤ t.room + 1
         → IsGoing tells moment a z lines left t
-    next tells moment a b z lines left n (what.Call c) s t p q v u r = serve_call tells moment a b z lines left n c s t q.0 p q.1 q.2 v u r
+    next tells moment a b z lines left n (what.Call c) s t p q v u r = serve_call tells moment a b z lines left n c s t q.0 p q.1 q.2 q.3 v u r
     next tells moment a b z lines left n (what.Advance ms) s t p q v u r = absurd q
     next tells moment a b z lines left n what.Tick s t p q v u r = absurd q
     next tells moment a b z lines left n what.Clean s t p q v u r = absurd q

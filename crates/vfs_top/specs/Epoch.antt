@@ -2,15 +2,22 @@
 use Rattle.std.specs.Prelude.{List, map}
 use Rattle.session_text.specs.declared.reply.Record.{Record}
 use Rattle.vfs_outside.specs.declared.tree.TreeEntry.{TreeEntry}
-use Rattle.one_session.specs.State.{History}
+use Rattle.one_session.specs.State.{History, Step}
 use Rattle.one_session.specs.declared.log.EpochLog.{EpochLog}
 pub use Rattle.one_session.specs.Logs.{history_of}
 
--- the tree's history, the files' histories by number, and the records of the calls in their order
+-- the tree's history, the files' histories by number, and the records of the calls in their order, beside each what its
+-- call did to the objects behind the files
 pub record Epoch : Type 0 where
   pub tree : List TreeEntry
   pub files : List History
   pub records : List Record
+  pub steps : List Step
 
-abbrev pub epoch_of : EpochLog → Epoch
-epoch_of log = record { tree = log.tree.items; files = map history_of log.files.items; records = log.records.items }
+abbrev pub epoch_of : {O S : Type 0} → EpochLog O S → Epoch
+epoch_of log = record {
+  tree = log.tree.items;
+  files = map history_of log.files.items;
+  records = log.records.items;
+  steps = log.steps.items;
+}

@@ -1,5 +1,5 @@
 -- The calls of a phase, and what they left.
-use Rattle.std.specs.Prelude.{◌≡◌, ℕ, ◌≤◌, false, List, [], ◌∷◌, ◌++◌, map, reverse, length}
+use Rattle.std.specs.Prelude.{◌≡◌, ℕ, ◌≤◌, false, Option, List, [], ◌∷◌, ◌++◌, map, reverse, length}
 use Rattle.std.specs.List.{AllByRecursion}
 use Rattle.vfs_names.specs.declared.fingerprint.Fingerprint.{Fingerprint}
 use Rattle.vfs_names.specs.declared.who.Actor.TheVariants.{Session}
@@ -9,8 +9,9 @@ use Rattle.session_script.specs.declared.call.Line.{Line}
 use Rattle.session_script.specs.declared.call.What.{What}
 use Rattle.session_script.specs.declared.call.What.TheVariants as what
 use Rattle.session_text.specs.declared.reply.Record.{Record}
+use Rattle.memory_item.specs.Item.{Behind}
 use Rattle.memory_item.specs.Known.{Holds}
-use Rattle.one_session.specs.Causes.{AreGiven, HasRemoteCause}
+use Rattle.one_session.specs.Causes.{AreGiven, AreSteps, HasRemoteCause, TakesStep}
 use Rattle.one_session.specs.Served.{Fits, IsServable, IsServed, Served, Serves}
 use Rattle.one_session.specs.State.{State}
 use Rattle.one_session.specs.Whole.{IsUpTo, IsWhole}
@@ -33,7 +34,7 @@ history_limit = 1048576
 
 -- What a phase of these lines left: they are calls of the first session, which were made at one moment between the
 -- clock's two answers, the records and the histories are those of the calls, by the contents that hold what the remote
--- handed out, and a refusal for the remote has its cause.
+-- handed out, and a refusal for the remote, or for an object behind a file, has its cause.
 pub record IsPhase (tells : Type 0) (before after : ℕ) (old new : Outside) (lines : List Line) (e : Epoch) : Type 0 where
   pub served : List Served
   pub moment : ℕ
@@ -43,6 +44,8 @@ pub record IsPhase (tells : Type 0) (before after : ℕ) (old new : Outside) (li
   pub asked : map line_of (reverse served) ≡ lines
   pub recorded : e.records ≡ map record_of (reverse served)
   pub causes : AllByRecursion (λ (d : Served). HasRemoteCause d.line.call d.done e.tree old new) served
+  pub left : List (Option Behind)
+  pub steps : AreSteps left served (reverse e.steps)
   pub matching : IsServed 1 (Holds tells new.handed) history_limit served e.tree e.files
   pub whole : IsWhole 1 e.tree e.files
 
@@ -62,13 +65,18 @@ AreCalls (line ∷ lines) = AsksCall line.line line.what × AreCalls lines
 
 -- the call that was asked for was served
 abbrev pub ServesAsked : Type 0 → By → What → State → State → Outside → Outside → Type 0
-ServesAsked tells by (what.Call c) s t old new = (done : Record) × Serves 1 tells old.handed new.handed by c done s t × HasRemoteCause c.call done t.tree old new
+ServesAsked tells by (what.Call c) s t old new = (done : Record) × Serves 1 tells old.handed new.handed by c done s t × HasRemoteCause c.call done t.tree old new × TakesStep c.call done s t
 ServesAsked tells by (what.Advance ms) s t old new = ⊥
 ServesAsked tells by what.Tick s t old new = ⊥
 ServesAsked tells by what.Clean s t old new = ⊥
 ServesAsked tells by what.Poll s t old new = ⊥
 ServesAsked tells by what.Join s t old new = ⊥
 ServesAsked tells by what.Restart s t old new = ⊥
+
+-- no object stands behind a file yet, and no call was made
+pub record IsUntouched (s : State) : Type 0 where
+  pub behind : s.behind ≡ []
+  pub steps : s.steps ≡ []
 
 -- A phase so far: calls of these lines were served, the newest first, others are left, and there is room for these.
 pub record IsGoing (tells : Type 0) (moment : ℕ) (old new : Outside) (lines left : List Line) (s : State) : Type 0 where
@@ -80,6 +88,7 @@ pub record IsGoing (tells : Type 0) (moment : ℕ) (old new : Outside) (lines le
   pub asked : map line_of (reverse served) ++ left ≡ lines
   pub makers : AllByRecursion (λ (d : Served). d.by ≡ maker_at moment) served
   pub causes : AllByRecursion (λ (d : Served). HasRemoteCause d.line.call d.done s.tree old new) served
+  pub steps : AreSteps s.behind served (reverse s.steps)
   pub faults : old.faults ≤ new.faults
   pub changes : old.changes ≤ new.changes
   pub more : List (Fingerprint × List ℕ)

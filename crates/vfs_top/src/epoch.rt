@@ -5,7 +5,7 @@ ghost use Rattle.memory_item.specs.Known.{Holds};
 ghost use Rattle.one_session.specs.Served.{Fits};
 ghost use Rattle.vfs_top.specs.Ended.{printed};
 ghost use Rattle.vfs_top.specs.Epoch.{epoch_of};
-ghost use Rattle.vfs_top.specs.Phase.{AreCalls, DoesFront, IsPhase, history_limit};
+ghost use Rattle.vfs_top.specs.Phase.{AreCalls, DoesFront, IsPhase, IsUntouched, history_limit};
 ghost use Rattle.vfs_top.specs.Writing.{Writes};
 
 use crate::phase::serve_all;
@@ -13,12 +13,12 @@ use crate::write::{Unwritten, write_epoch, write_start};
 use one_session::{EpochLog, OneSession};
 use session_script::Line;
 use std::alloc::Global;
-use vfs_outside::{Clock, Gate, Remote, Sink};
+use vfs_outside::{Clock, Gate, Object, Remote, Sink};
 
 /// What was kept of an epoch, and whether all that it prints was written.
 #[derive(Drop)]
-pub struct Ran {
-    pub log: EpochLog,
+pub struct Ran<O: Object> {
+    pub log: EpochLog<O>,
     pub wrote: Result<(), Unwritten>,
 }
 
@@ -31,11 +31,12 @@ pub fn run_epoch<K: Sink, R: Remote, C: Clock, G: Gate>(
     clock: &mut C,
     lines: &[Line],
     gate: &G,
-) -> Ran
+) -> Ran<R::Object>
     requires new { (handed : List (Fingerprint × List ℕ)) → Fits 1 (Holds R.Object.tells handed) [] session }
     requires given { session.pairs ≡ [] }
     requires limit { session.limit ≡ history_limit }
     requires none { session.files ≡ [] }
+    requires untouched { IsUntouched session }
     requires calls { AreCalls lines.now }
     requires room { length lines.now ≤ session.room }
     ensures done { OnOk result.wrote (IsPhase R.Object.tells (C.moment clock.old) (C.moment clock.new)
@@ -66,11 +67,12 @@ fn run_phase<R: Remote, C: Clock, G: Gate>(
     clock: &mut C,
     lines: &[Line],
     gate: &G,
-) -> EpochLog
+) -> EpochLog<R::Object>
     requires new { (handed : List (Fingerprint × List ℕ)) → Fits 1 (Holds R.Object.tells handed) [] session }
     requires given { session.pairs ≡ [] }
     requires limit { session.limit ≡ history_limit }
     requires none { session.files ≡ [] }
+    requires untouched { IsUntouched session }
     requires calls { AreCalls lines.now }
     requires room { length lines.now ≤ session.room }
     ensures { IsPhase R.Object.tells (C.moment clock.old) (C.moment clock.new) (R.outside remote.old) (R.outside remote.new)

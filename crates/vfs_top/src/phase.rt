@@ -5,7 +5,7 @@ ghost use Rattle.memory_item.specs.Known.{Holds};
 ghost use Rattle.one_session.specs.Served.{Fits};
 ghost use Rattle.one_session.specs.Causes.{AreGiven};
 ghost use Rattle.one_session.specs.Whole.{IsUpTo};
-ghost use Rattle.vfs_top.specs.Phase.{AreCalls, AsksCall, IsGoing, ServesAsked, history_limit, maker_at};
+ghost use Rattle.vfs_top.specs.Phase.{AreCalls, AsksCall, IsGoing, IsUntouched, ServesAsked, history_limit, maker_at};
 
 use one_session::OneSession;
 use session_script::{Line, What};
@@ -42,6 +42,7 @@ pub fn serve_all<R: Remote, G: Gate>(
     requires given { session.old.pairs ≡ [] }
     requires limit { session.old.limit ≡ history_limit }
     requires none { session.old.files ≡ [] }
+    requires untouched { IsUntouched session.old }
     requires calls { AreCalls lines.now }
     requires room { length lines.now ≤ session.old.room }
     ensures { IsGoing R.Object.tells moment (R.outside remote.old) (R.outside remote.new) lines.now [] session.new }

@@ -9,6 +9,7 @@ use one_session::{EpochLog, FileLog};
 use session_text::{Record, print_end, print_file, print_queue, print_reply, print_tree};
 use std::alloc::Global;
 use vfs_names::{Blob, ItemId, NoMemory, QueueRow};
+use vfs_outside::Object;
 
 /// When a file that waits is due, in milliseconds.
 const DUE: u64 = 5000;
@@ -24,7 +25,11 @@ pub fn print_replies(out: &mut Blob, records: &[Record]) -> Result<(), NoMemory>
 }
 
 /// Appends the histories of an epoch, the queue, and the last line.
-pub fn print_ending(alloc: Global, out: &mut Blob, log: &EpochLog) -> Result<(), NoMemory>
+pub fn print_ending<O: Object>(
+    alloc: Global,
+    out: &mut Blob,
+    log: &EpochLog<O>,
+) -> Result<(), NoMemory>
     ensures { OnOk result (out.new ≡ out.old ++ (end_block (epoch_of log.now) ++ end_text 0)) }
 {
     print_tree(out, &log.tree)?;

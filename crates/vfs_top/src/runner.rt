@@ -15,7 +15,7 @@ use crate::write::{Unwritten, write_no_memory, write_stop};
 use one_session::EpochLog;
 use session_script::Line;
 use std::alloc::Global;
-use vfs_outside::{CacheDisk, Clock, Gate, Remote, RemoteError, Sink, Source};
+use vfs_outside::{CacheDisk, Clock, Gate, Object, Remote, RemoteError, Sink, Source};
 
 /// How a run ended: the status that the program ends with, the devices, and what was kept of each epoch, also where
 /// the sink failed.
@@ -24,7 +24,7 @@ pub struct Ended<R: Remote, D: CacheDisk> {
     pub status: u8,
     pub remote: R,
     pub disk: D,
-    pub epochs: Vec<EpochLog>,
+    pub epochs: Vec<EpochLog<R::Object>>,
 }
 
 /// Does what the program does: reads the words and the script, runs the script, and writes the transcript, or why it
@@ -95,7 +95,7 @@ fn run_words<S: Source, K: Sink, R: Remote, C: Clock, G: Gate>(
     remote: &mut R,
     clock: &mut C,
     gate: &G,
-) -> Kept
+) -> Kept<R::Object>
     ensures done { result.status ≡ 0 → Done R.Object.tells (map string_bytes words.now)
         (told (S.left source.old) (S.faults source.old) (K.written sink.old) (K.faults sink.old)
         (C.moment clock.old) (R.outside remote.old))
@@ -138,7 +138,7 @@ fn attach<K: Sink, R: Remote, C: Clock, G: Gate>(
     clock: &mut C,
     lines: &[Line],
     gate: &G,
-) -> Kept
+) -> Kept<R::Object>
     requires row { IsRow (map string_bytes words.now) }
     requires calls { AreCalls lines.now }
     ensures all { result.status ≡ 0 → DoesAll R.Object.tells (K.written sink.old) (K.written sink.new)
@@ -167,7 +167,7 @@ fn attach<K: Sink, R: Remote, C: Clock, G: Gate>(
 
 /// Writes why a run stops.
 #[tactic(auto, using(crate::proofs::Texts::whole_front))]
-fn run_stop<K: Sink>(alloc: Global, sink: &mut K, stop: Stop) -> Kept
+fn run_stop<K: Sink, O: Object>(alloc: Global, sink: &mut K, stop: Stop) -> Kept<O>
     ensures never { result.status ≢ 0 }
     ensures stopped { result.status ≢ 5 → result.status ≢ 8 → result.status ≡ status_of stop }
     ensures text { result.status ≢ 5 → result.status ≢ 8 → Appends (K.written sink.old) (K.written sink.new) (stop_text stop) }

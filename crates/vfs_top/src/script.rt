@@ -5,7 +5,7 @@ ghost use Rattle.memory_item.specs.Known.{Holds};
 ghost use Rattle.one_session.specs.Served.{Fits};
 ghost use Rattle.vfs_top.specs.Ended.{DoesAll, DoesNothing, DoesSome};
 ghost use Rattle.vfs_top.specs.Epoch.{epoch_of};
-ghost use Rattle.vfs_top.specs.Phase.{AreCalls, history_limit};
+ghost use Rattle.vfs_top.specs.Phase.{AreCalls, IsUntouched, history_limit};
 
 use crate::epoch::{Ran, run_epoch};
 use crate::write::Unwritten;
@@ -20,9 +20,9 @@ const HISTORY_LIMIT: u32 = 1_048_576;
 
 /// The status that a run ends with, and what was kept of its epochs.
 #[derive(Drop)]
-pub struct Kept {
+pub struct Kept<O: Object> {
     pub status: u8,
-    pub epochs: Vec<EpochLog>,
+    pub epochs: Vec<EpochLog<O>>,
 }
 
 /// Does the lines of a script. Its memory for what is kept is taken first, so that no record of a call that was done is
@@ -34,7 +34,7 @@ pub fn run_script<K: Sink, R: Remote, C: Clock, G: Gate>(
     clock: &mut C,
     lines: &[Line],
     gate: &G,
-) -> Kept
+) -> Kept<R::Object>
     requires { AreCalls lines.now }
     ensures all { result.status ≡ 0 → DoesAll R.Object.tells (K.written sink.old) (K.written sink.new)
         (C.moment clock.old) (C.moment clock.new) (R.outside remote.old) (R.outside remote.new)
@@ -60,7 +60,7 @@ pub fn run_script<K: Sink, R: Remote, C: Clock, G: Gate>(
 }
 
 /// Nothing was kept, since memory was wanting.
-pub fn no_memory(alloc: Global) -> Kept
+pub fn no_memory<O: Object>(alloc: Global) -> Kept<O>
     ensures status { result.status ≡ 8 }
     ensures none { result.epochs.items ≡ [] }
 {
@@ -77,6 +77,7 @@ fn begin<O: Object>(alloc: Global, calls: usize) -> Result<OneSession<O>, NoMemo
     ensures given { IfOk result (λ session. session.pairs ≡ []) }
     ensures limit { IfOk result (λ session. session.limit ≡ history_limit) }
     ensures none { IfOk result (λ session. session.files ≡ []) }
+    ensures untouched { IfOk result IsUntouched }
     ensures room { IfOk result (λ session. calls ≤ session.room) }
 {
     let mut session = match OneSession::new(alloc, HISTORY_LIMIT) {
@@ -93,17 +94,18 @@ fn begin<O: Object>(alloc: Global, calls: usize) -> Result<OneSession<O>, NoMemo
 fn run_begun<K: Sink, R: Remote, C: Clock, G: Gate>(
     alloc: Global,
     session: OneSession<R::Object>,
-    epochs: Vec<EpochLog>,
+    epochs: Vec<EpochLog<R::Object>>,
     sink: &mut K,
     remote: &mut R,
     clock: &mut C,
     lines: &[Line],
     gate: &G,
-) -> Kept
+) -> Kept<R::Object>
     requires new { (handed : List (Fingerprint × List ℕ)) → Fits 1 (Holds R.Object.tells handed) [] session }
     requires given { session.pairs ≡ [] }
     requires limit { session.limit ≡ history_limit }
     requires files { session.files ≡ [] }
+    requires untouched { IsUntouched session }
     requires calls { AreCalls lines.now }
     requires records { length lines.now ≤ session.room }
     requires none { epochs.items ≡ [] }
@@ -127,7 +129,7 @@ fn run_begun<K: Sink, R: Remote, C: Clock, G: Gate>(
 }
 
 /// The epochs and one more, for which there is room.
-fn keep(epochs: Vec<EpochLog>, log: EpochLog) -> Vec<EpochLog>
+fn keep<O: Object>(epochs: Vec<EpochLog<O>>, log: EpochLog<O>) -> Vec<EpochLog<O>>
     requires { vec_len epochs < vec_capacity epochs }
     ensures { result.items ≡ epochs.items ++ log ∷ [] }
 {

@@ -10,6 +10,7 @@ use vfs_outside::{MemorySink, MemorySource, OpenGate, Remote, ScriptClock};
 mod folder;
 mod objects;
 mod odd_remote;
+mod replaced;
 
 use odd_remote::OddRemote;
 

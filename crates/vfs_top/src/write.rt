@@ -13,7 +13,7 @@ use one_session::EpochLog;
 use session_text::print_start;
 use std::alloc::Global;
 use vfs_names::{Blob, NoMemory};
-use vfs_outside::Sink;
+use vfs_outside::{Object, Sink};
 
 /// Why a text wasn't written.
 #[derive(Clone, Copy, Debug, PartialEq, Eq)]
@@ -48,7 +48,11 @@ pub fn write_start<K: Sink>(alloc: Global, sink: &mut K) -> Result<(), Unwritten
 }
 
 /// Writes the replies of an epoch's calls, and then its end.
-pub fn write_epoch<K: Sink>(alloc: Global, sink: &mut K, log: &EpochLog) -> Result<(), Unwritten>
+pub fn write_epoch<K: Sink, O: Object>(
+    alloc: Global,
+    sink: &mut K,
+    log: &EpochLog<O>,
+) -> Result<(), Unwritten>
     ensures { Writes (K.written sink.old) (K.written sink.new) (K.faults sink.old) (K.faults sink.new)
         (shown_texts (map Replied log.now.records.items) ++ (end_block (epoch_of log.now) ++ end_text 0)) result }
 {
@@ -59,7 +63,11 @@ pub fn write_epoch<K: Sink>(alloc: Global, sink: &mut K, log: &EpochLog) -> Resu
 }
 
 #[tactic(auto, using(crate::proofs::Texts::none_written))]
-fn write_replies<K: Sink>(alloc: Global, sink: &mut K, log: &EpochLog) -> Result<(), Unwritten>
+fn write_replies<K: Sink, O: Object>(
+    alloc: Global,
+    sink: &mut K,
+    log: &EpochLog<O>,
+) -> Result<(), Unwritten>
     ensures { Writes (K.written sink.old) (K.written sink.new) (K.faults sink.old) (K.faults sink.new)
         (shown_texts (map Replied log.now.records.items)) result }
 {
@@ -71,7 +79,11 @@ fn write_replies<K: Sink>(alloc: Global, sink: &mut K, log: &EpochLog) -> Result
 }
 
 #[tactic(auto, using(crate::proofs::Texts::none_written))]
-fn write_ending<K: Sink>(alloc: Global, sink: &mut K, log: &EpochLog) -> Result<(), Unwritten>
+fn write_ending<K: Sink, O: Object>(
+    alloc: Global,
+    sink: &mut K,
+    log: &EpochLog<O>,
+) -> Result<(), Unwritten>
     ensures { Writes (K.written sink.old) (K.written sink.new) (K.faults sink.old) (K.faults sink.new)
         (end_block (epoch_of log.now) ++ end_text 0) result }
 {

@@ -1,8 +1,9 @@
 use super::*;
 use remote_folder::FolderRemote;
-use std::fs;
+use std::io::ErrorKind;
 use std::os::unix::fs::symlink;
 use std::time::{Duration, UNIX_EPOCH};
+use std::{fs, io};
 
 const FILES: usize = 300;
 
@@ -17,23 +18,31 @@ const PART: usize = 50;
 const LONGEST: usize = 131_072;
 
 /// Writes a file anew, with its modification time in milliseconds.
-fn put(rt: &HostRuntime, name: &str, bytes: &[u8], mtime: u64) -> Result<(), Fail> {
+pub fn put(rt: &HostRuntime, name: &str, bytes: &[u8], mtime: u64) -> io::Result<()> {
     fs::write(rt, name, bytes)?;
     let file = fs::OpenOptions::new().write(true).open(rt, name)?;
-    let time = UNIX_EPOCH
-        .checked_add(Duration::from_millis(mtime))
-        .ok_or("time")?;
-    file.set_modified(time)?;
-    Ok(())
+    let Some(time) = UNIX_EPOCH.checked_add(Duration::from_millis(mtime)) else {
+        return Err(ErrorKind::InvalidInput.into());
+    };
+    file.set_modified(time)
 }
 
 /// Runs a script over a folder.
 fn run_folder(rt: &HostRuntime, folder: &str, script: &str) -> Result<Seen, Fail> {
+    run_remote(rt, folder, script, FolderRemote::new(rt.alloc(), *rt))
+}
+
+/// Runs a script over a store of this name.
+pub fn run_remote<R: Remote>(
+    rt: &HostRuntime,
+    name: &str,
+    script: &str,
+    remote: R,
+) -> Result<Seen, Fail> {
     let alloc = rt.alloc();
     let mut words = ROW;
-    words[2] = folder;
+    words[2] = name;
     let mut source = source_of(alloc, script.as_bytes(), &[])?;
-    let remote = FolderRemote::new(alloc, *rt);
     run_over(alloc, &words, &mut source, &[], remote)
 }
 

@@ -13,7 +13,7 @@ returns-in-Ok-clause-text g c =
 
 pub returns-in-Err-clause-front : goal.returns-in-Err-clause-front
 returns-in-Err-clause-front g c =
-    nothing_done _ _ (g.R.Remote.outside c.args.remote.now) c.args.session (epoch_of c.into_log.result) _ (c.requires.new (g.R.Remote.outside c.args.remote.now).handed) c.requires.limit c.into_log.ensures.whole c.into_log.ensures.tree c.into_log.ensures.files c.into_log.ensures.records
+    nothing_done _ _ (g.R.Remote.outside c.args.remote.now) c.args.session (epoch_of c.into_log.result) _ (c.requires.new (g.R.Remote.outside c.args.remote.now).handed) c.requires.limit c.into_log.ensures.whole c.into_log.ensures.tree c.into_log.ensures.files c.into_log.ensures.records c.into_log.ensures.steps c.requires.untouched
 
 pub returns-in-Err-clause-text : goal.returns-in-Err-clause-text
 returns-in-Err-clause-text g c =

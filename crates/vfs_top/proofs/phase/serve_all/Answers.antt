@@ -3,7 +3,7 @@ use Rattle.vfs_top.proofs.Going.{next_at}
 use Rattle.vfs_top.proofs.phase.serve_all.Goals as goal
 
 pub loop-line-init : goal.loop-line-init
-loop-line-init g c = all_left g.R.Object.Object.tells c.args.moment (g.R.Remote.outside c.args.remote.now) c.args.lines.now _ (c.requires.new (g.R.Remote.outside c.args.remote.now).handed) c.requires.given c.requires.limit c.requires.none c.requires.calls c.requires.room
+loop-line-init g c = all_left g.R.Object.Object.tells c.args.moment (g.R.Remote.outside c.args.remote.now) c.args.lines.now _ (c.requires.new (g.R.Remote.outside c.args.remote.now).handed) c.requires.given c.requires.limit c.requires.none c.requires.calls c.requires.room c.requires.untouched
 
 pub loop-line-preserved : goal.loop-line-preserved
 loop-line-preserved g c =

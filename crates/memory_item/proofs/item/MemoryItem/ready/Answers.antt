@@ -7,7 +7,7 @@ use Rattle.memory_item.proofs.Fetched.{fetched}
 use Rattle.memory_item.proofs.item.MemoryItem.ready.Goals as goal
 
 pub invariant_of-self : goal.invariant_of-self
-invariant_of-self g c = fetched g.O.Object.print_of g.O.Object.bytes g.O.Object.tells _ _ _ _ c.self.inside.base c.in-Some-base.object c.bring.new.object _ _ _ _ _ _ _
+invariant_of-self g c = fetched g.O.Object.print_of g.O.Object.bytes g.O.Object.changes g.O.Object.tells _ _ _ _ c.self.inside.base c.in-Some-base.object c.bring.new.object _ _ _ _ _ _ _
     c.self.invariant c.in-Some-base.is c.bring.ensures.same.same_print c.bring.ensures.same.same_bytes
     (omega (arith, c.min-end.ensures, c.base_end-base_end.ensures.base_end)) c.bring.ensures.lost c.bring.ensures.filled
 

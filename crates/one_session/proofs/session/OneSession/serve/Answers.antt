@@ -1,10 +1,12 @@
-use Rattle.std.proofs.Common.{[], subst, sym, refl, ◌-◌, vec_len, vec_capacity}
+use Rattle.std.proofs.Common.{◌++◌, ◌∙◌, ◌∷◌, [], ap, subst, sym, refl, min, ◌-◌, vec_len, vec_capacity}
 use Rattle.memory_item.specs.Known.{Holds}
-use Rattle.one_session.specs.Causes.{AreGiven, ReadCause}
+use Rattle.one_session.specs.Causes.{AreGiven, TakesStep}
 use Rattle.one_session.specs.Did.{Did}
 use Rattle.one_session.specs.Served.{Serves}
 use Rattle.one_session.specs.Standing.{recorded, state_of}
-use Rattle.one_session.proofs.Served.{read_caused, serves}
+use Rattle.one_session.specs.State.{Step}
+use Rattle.one_session.specs.Views.{Shelf, behind_all}
+use Rattle.one_session.proofs.Served.{serves}
 use Rattle.one_session.proofs.session.OneSession.serve.Goals as goal
 
 pub returns-clause-served : goal.returns-clause-served
@@ -13,20 +15,23 @@ returns-clause-served g c =
     let before = (g.R.Remote.outside c.args.remote.now).handed in
     let line = c.args.line.now in
     let done = recorded line.line c.answer-reply.result in
-    let old = state_of c.self.inside.store [] 0 in
-    let new = state_of c.answer-reply.new.self [] 0 in
-    let room = vec_capacity c.push.new.self - vec_len c.push.new.self in
-    let has = vec_capacity c.self.inside.records - vec_len c.self.inside.records in
+    let old = state_of c.self.inside.store [] [] 0 in
+    let new = state_of c.answer-reply.new.self [] [] 0 in
+    let room = min (vec_capacity c.push.new.self - vec_len c.push.new.self) (vec_capacity c.push-2.new.self - vec_len c.push-2.new.self) in
+    let has = min (vec_capacity c.self.inside.records - vec_len c.self.inside.records) (vec_capacity c.self.inside.steps - vec_len c.self.inside.steps) in
     let cause = c.answer-reply.ensures.cause line.line in
-    let given = subst (λ s. AreGiven tells before s.pairs) (sym c.self.view_is) c.requires.given in (
+    let given = subst (λ s. AreGiven tells before s.pairs) (sym c.self.view_is) c.requires.given in
+    let added = (rw c.unwrap-2.ensures at c.push-2.ensures.items)
+    ∙ ap (λ (f : Shelf). c.self.inside.steps.items ++ record { before = behind_all f.items; after = behind_all c.of-after.result.value.items } ∷ []) c.of-before.ensures
+    ∙ ap (λ (f : Shelf). c.self.inside.steps.items ++ record { before = behind_all c.self.inside.store.files.items; after = behind_all f.items } ∷ []) c.of-after.ensures in (
       done,
-      subst (λ s. Serves 1 tells before (g.R.Remote.outside c.answer-reply.new.remote).handed c.args.by line done s (state_of c.answer-reply.new.self c.push.new.self.items room)) c.self.view_is
-          (subst (λ x. Serves 1 tells before x c.args.by line done (state_of c.self.inside.store c.self.inside.records.items has) (state_of c.answer-reply.new.self c.push.new.self.items room)) (sym cause.handed)
-          (serves tells cause.more before c.args.by line done old new c.self.inside.records.items c.push.new.self.items has room c.requires.actor refl (rw c.unwrap.ensures at c.push.ensures.items)
+      subst (λ s. Serves 1 tells before (g.R.Remote.outside c.answer-reply.new.remote).handed c.args.by line done s (state_of c.answer-reply.new.self c.push.new.self.items c.push-2.new.self.items room)) c.self.view_is
+          (subst (λ x. Serves 1 tells before x c.args.by line done (state_of c.self.inside.store c.self.inside.records.items c.self.inside.steps.items has) (state_of c.answer-reply.new.self c.push.new.self.items c.push-2.new.self.items room)) (sym cause.handed)
+          (serves tells cause.more before c.args.by line done old new c.self.inside.records.items c.push.new.self.items c.self.inside.steps.items c.push-2.new.self.items has room c.requires.actor refl (rw c.unwrap.ensures at c.push.ensures.items)
           (subst (λ x. Did 1 (Holds tells x) c.args.by line.call done old new) cause.handed (c.answer-reply.ensures.did given line.line)))),
       cause,
-      subst (λ s. ReadCause line.call done s (state_of c.answer-reply.new.self c.push.new.self.items room)) c.self.view_is
-          (read_caused line.call done old new c.self.inside.records.items c.push.new.self.items has room (c.answer-reply.ensures.read_cause line.line)),
+      subst (λ s. TakesStep line.call done s (state_of c.answer-reply.new.self c.push.new.self.items c.push-2.new.self.items room)) c.self.view_is
+          (record { added = added; cause = c.answer-reply.ensures.read_cause line.line }),
     )
 
 pub returns-clause-given : goal.returns-clause-given

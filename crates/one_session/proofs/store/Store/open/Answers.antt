@@ -11,7 +11,7 @@ returns-in-Err-clause-cause g c = λ line. remote_cause c.args.handle c.args.pat
     (own_cause c.args.path.now _ _ _ _ c.in-Err.why c.bare-in-Err.ensures.reply c.in-Err.ensures.causes)
 
 pub returns-in-Some-clause-did : goal.returns-in-Some-clause-did
-returns-in-Some-clause-did g c = λ handed line. did_same (Holds g.O.Object.tells handed) c.args.by (call.Open c.args.handle c.args.path.now c.args.how) (recorded line c.open_again.result) (state_of c.args.self.now [] 0) _ _ c.reserve.ensures.entries (c.open_again.ensures.did handed line)
+returns-in-Some-clause-did g c = λ handed line. did_same (Holds g.O.Object.tells handed) c.args.by (call.Open c.args.handle c.args.path.now c.args.how) (recorded line c.open_again.result) (state_of c.args.self.now [] [] 0) _ _ c.reserve.ensures.entries (c.open_again.ensures.did handed line)
 
 pub returns-in-None-clause-did : goal.returns-in-None-clause-did
-returns-in-None-clause-did g c = λ handed line. did_same (Holds g.O.Object.tells handed) c.args.by (call.Open c.args.handle c.args.path.now c.args.how) (recorded line c.open_new.result) (state_of c.args.self.now [] 0) _ _ c.reserve.ensures.entries (c.open_new.ensures.did handed line)
+returns-in-None-clause-did g c = λ handed line. did_same (Holds g.O.Object.tells handed) c.args.by (call.Open c.args.handle c.args.path.now c.args.how) (recorded line c.open_new.result) (state_of c.args.self.now [] [] 0) _ _ c.reserve.ensures.entries (c.open_new.ensures.did handed line)

@@ -1,13 +1,16 @@
-use Rattle.std.proofs.Common.{◌∙◌, ap, sym, refl, false, ◌≡◌, ◌∷◌, [], Some, Err}
+use Rattle.std.proofs.Common.{◌∙◌, ap, sym, refl, false, ◌≡◌, ◌<◌, ◌∷◌, [], None, Some, Err, arith, length}
+use Rattle.std.proofs.lemmas.List.{length-map}
 use Rattle.item_core.specs.declared.entry.FileKind.TheVariants.{Read}
-use Rattle.memory_item.specs.Item.{in_file}
+use Rattle.memory_item.specs.Item.{Item, in_file}
 use Rattle.memory_item.specs.Known.{Holds}
 use Rattle.one_session.specs.State.{file_at}
-use Rattle.one_session.specs.Views.{histories}
+use Rattle.one_session.specs.Standing.{recorded, step_between}
+use Rattle.one_session.specs.Views.{blank, histories, item_in, stored}
 use Rattle.one_session.proofs.Doing.{read_done}
 use Rattle.one_session.proofs.Given.{given_at}
 use Rattle.one_session.proofs.Keeping.{goes_on, sound_grown, up_to}
-use Rattle.one_session.proofs.Refusing.{refused_did, refused_later, refused_sound}
+use Rattle.one_session.proofs.Refusing.{refused_cause, refused_did, refused_later, refused_sound}
+use Rattle.one_session.proofs.Shelves.{get_map}
 use Rattle.one_session.proofs.store.Store.read.Goals as goal
 
 pub returns-in-Ok-clause-sound : goal.returns-in-Ok-clause-sound
@@ -46,3 +49,13 @@ returns-in-Err-clause-did g c = λ handed given line.
     let lt = c.requires.sound.sound.inside c.args.handle c.in-Some.opened at in
     refused_did (Holds g.O.Object.tells handed) c.args.by _ _ _ c.args.handle c.args.pos c.args.len c.end-place.result c.in-Some.opened c.in-Err.why _ _ c.requires.actor c.in-Err.ensures.causes c.of_read.ensures.reply c.of_read.ensures.tree c.of_read.ensures.file at lt
     c.end-place.ensures (λ e. c.in-Err.ensures.full.0 (ap Err e)) refl c.in-Err.ensures.err refl c.in-Err.ensures.limit
+
+pub returns-in-Err-clause-cause : goal.returns-in-Err-clause-cause
+returns-in-Err-clause-cause g c = λ line.
+    let at : file_at c.args.self.now.table.items c.args.handle ≡ Some c.in-Some.opened = sym c.file_of.ensures ∙ c.in-Some.is in
+    let lt = c.requires.sound.sound.inside c.args.handle c.in-Some.opened at in
+    let le : c.in-Some.opened.item < length c.args.self.now.files.items = omega (arith, length-map c.args.self.now.files.items stored, lt) in
+    refused_cause (recorded line c.of_read.result) (step_between c.args.self.now (record c.args.self.now { files = c.read.new.self })) c.in-Some.opened (file_at c.args.self.now.table.items c.args.handle)
+    (item_in c.args.self.now.files.items c.in-Some.opened.item) (item_in c.read.new.self.items c.in-Some.opened.item) c.args.pos c.args.len c.in-Err.why at c.in-Err.ensures.causes c.of_read.ensures.reply
+    (get_map (λ (x : Item). x.behind) c.args.self.now.files.items c.in-Some.opened.item blank None le)
+    (get_map (λ (x : Item). x.behind) c.read.new.self.items c.in-Some.opened.item blank None (omega (arith, le, c.in-Err.ensures.count_files)))
