@@ -21,7 +21,7 @@ use Rattle.item_image.specs.Premise.{Fits, IsOfImage, IsWholeAs, Pairs}
 use Rattle.item_image.specs.Stands.{EachStands, Means, StandsFor, Tells, laid}
 use Rattle.item_image.specs.Book.{Book, HasMeta, HoldsFor, Keeps, KeepsFor}
 use Rattle.item_image.specs.Calls.{Goes}
-use Rattle.item_image.specs.Entries.{made}
+use Rattle.item_image.specs.Entries.{made, recovered_entry}
 use Rattle.item_image.specs.Next.{adopted_meta, fresh_meta}
 use Rattle.item_image.proofs.Premises.{fewer_fits, older_fits}
 use Rattle.item_image.proofs.Steps.{made_now, stands_of, step_made}
@@ -47,17 +47,20 @@ none_since told n e z = none told.since (e ∙ z) where
 
 -- a slot that was just handed out and has nothing saved
 pub started : {tells shows : Type 0} {slot : Slot} (saved : ℕ) → slot.calls ≡ 0 → (tells → length slot.told.since ≡ slot.calls)
-    → (tells → meta_in slot.told.first ≡ None) → Book tells shows [] [] saved [] None slot
+    → (tells → meta_in (image slot.told) ≡ None) → Book tells shows [] [] saved [] None slot
 started {tells} {shows} {slot} saved zero counted blank = record {
   late = omega (arith, zero);
   kept = refl;
   counted = counted;
   images = λ t known f i. subst (λ (calls : List FileCall). EachStands known saved slot.told.first calls [] []) (sym (since t))
-      (stands_of known saved slot.told.first [] [] None refl (blank t));
-  holds = λ t known f i. subst (λ (calls : List FileCall). meta_in (calls ++ slot.told.first) ≡ None) (sym (since t)) (blank t);
+      (stands_of known saved slot.told.first [] [] None refl (first_blank t));
+  holds = λ t known f i. blank t;
 } where
   since : tells → slot.told.since ≡ []
   since t = none_since slot.told slot.calls (counted t) zero
+
+  first_blank : tells → meta_in slot.told.first ≡ None
+  first_blank t = subst (λ (calls : List FileCall). meta_in (calls ++ slot.told.first) ≡ None) (since t) (blank t)
 
 absent_in_none : (p : ℕ) → has [] p ≡ true → ⊥
 absent_in_none p h = true≢false (sym h)
@@ -96,10 +99,6 @@ adopted {tells} {shows} {past} {names} {saved} {pairs} {meta} {m} {text} {path} 
       has : HasFacts (facts_of saved (made by at (Adopt print) ∷ past) (path ∷ names)) (adopted_meta path print now)
       has = record { path = refl; size = refl; base_end = refl; base = refl; dirty = refl; mtime = refl; fits = means'.in_range }
 
--- the file that a slot has saved, as the slot was handed out
-abbrev pub recovered_entry : By → Meta → Entry
-recovered_entry by m = made by 0 (Recovered m.size m.base_end m.dirty m.base)
-
 recovered_facts : {text : List ℕ} {m : Meta} (by : By) → Means text m → HasFacts (facts_of m.mtime (recovered_entry by m ∷ []) (m.path ∷ [])) m
 recovered_facts by means = record { path = refl; size = refl; base_end = refl; base = refl; dirty = refl; mtime = refl; fits = means.in_range }
 
@@ -122,10 +121,11 @@ recovered_tells known m by text stored means w = record {
   absent = λ p h. ap (λ (o : Option ℕ). unwrap_or o (base_byte known m.base_end m.base p)) (saved_nowhere known m stored p w h);
 }
 
+-- the file that a slot has saved, as the slot was handed out
 pub recovered : {tells shows : Type 0} {m : Meta} {text : List ℕ} {slot : Slot} (by : By) → slot.calls ≡ 0 → (tells → length slot.told.since ≡ slot.calls)
-    → (tells → meta_in slot.told.first ≡ Some text) → Means text m
+    → (tells → meta_in (image slot.told) ≡ Some text) → Means text m
     → Book tells shows (recovered_entry by m ∷ []) (m.path ∷ []) m.mtime [] (Some m) slot
-recovered {tells} {shows} {m} {text} {slot} by zero counted there means = record {
+recovered {tells} {shows} {m} {text} {slot} by zero counted has means = record {
   late = omega (arith, zero);
   kept = (refl, recovered_facts by means);
   counted = counted;
@@ -135,6 +135,9 @@ recovered {tells} {shows} {m} {text} {slot} by zero counted there means = record
 } where
   since : tells → slot.told.since ≡ []
   since t = none_since slot.told slot.calls (counted t) zero
+
+  there : tells → meta_in slot.told.first ≡ Some text
+  there t = subst (λ (calls : List FileCall). meta_in (calls ++ slot.told.first) ≡ Some text) (since t) (has t)
 
   first_keeps : tells → (known : Known) → IsOfImage known slot.told.first → KeepsFor known m.mtime slot.told.first (recovered_entry by m ∷ []) (m.path ∷ []) m
   first_keeps t known i = subst (λ (x : Option (List ℕ)). Keeps known x (λ p. data_in slot.told.first p)

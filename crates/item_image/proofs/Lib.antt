@@ -2,6 +2,7 @@ pub mod Begin
 pub mod Calls
 pub mod Change
 pub mod Images
+pub mod LawProofs
 pub mod Premises
 pub mod Quiet
 pub mod ReadBytes

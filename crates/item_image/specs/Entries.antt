@@ -3,11 +3,16 @@ use Rattle.std.specs.Prelude.{ℕ, ◌==◌, Bool, true, false}
 use Rattle.vfs_names.specs.Payload.{payload_len}
 use Rattle.vfs_names.specs.declared.who.By.{By}
 use Rattle.item_core.specs.declared.entry.Entry.{Entry}
+use Rattle.item_meta.specs.declared.meta.Meta.{Meta}
 use Rattle.item_core.specs.declared.entry.FileKind.{FileKind}
-use Rattle.item_core.specs.declared.entry.FileKind.TheVariants.{Bind, Write, Read, Stat, Opened, Closed, UploadStart, UploadDropped, Refused}
+use Rattle.item_core.specs.declared.entry.FileKind.TheVariants.{Recovered, Bind, Write, Read, Stat, Opened, Closed, UploadStart, UploadDropped, Refused}
 
 abbrev pub made : By → ℕ → FileKind → Entry
 made by at kind = record { by = by; at = at; kind = kind }
+
+-- a file that an image had when the epoch began, of which nothing was called yet
+abbrev pub recovered_entry : By → Meta → Entry
+recovered_entry by meta = made by 0 (Recovered meta.size meta.base_end meta.dirty meta.base)
 
 -- an entry that changes nothing that metadata tell, and no byte
 abbrev pub is_plain : FileKind → Bool

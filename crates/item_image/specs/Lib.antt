@@ -4,5 +4,6 @@ pub mod Entries
 pub mod Facts
 pub mod Next
 pub mod Premise
+pub mod Restart
 pub mod Stands
 pub mod Stored
