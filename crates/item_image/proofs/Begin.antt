@@ -1,25 +1,25 @@
 -- How a file begins at a slot, and how it ends there.
-use Rattle.std.proofs.Common.{◌≡◌, ◌⊎◌, ℕ, ◌<◌, ◌+◌, nat_lt, ◌++◌, if◌then◌else◌, Bool, true, false, Option, Some, None, List, [], ◌∷◌, length, refl, sym, ap, ◌∙◌, inl, inr, arith, subst}
-use Rattle.std.specs.Prelude.{IsSome, slice_index, unwrap_or}
+use Rattle.std.proofs.Common.{◌≡◌, ◌⊎◌, ℕ, ◌++◌, Bool, true, false, Option, Some, None, List, [], ◌∷◌, length, refl, sym, ap, ◌∙◌, inl, inr, arith, subst}
+use Rattle.std.specs.Prelude.{IsSome, unwrap_or}
 use Rattle.std.proofs.lemmas.Bool.{true≢false}
 use Rattle.byte_ranges.specs.Ranges.{has}
 use Rattle.vfs_names.specs.declared.fingerprint.Fingerprint.{Fingerprint}
 use Rattle.vfs_names.specs.declared.who.By.{By}
-use Rattle.vfs_outside.specs.Image.{Image, data_in, meta_in}
+use Rattle.vfs_outside.specs.Image.{data_in, meta_in}
 use Rattle.vfs_outside.specs.Slot.{Slot, Told, image}
 use Rattle.vfs_outside.specs.declared.file_call.FileCall.{FileCall}
 use Rattle.vfs_outside.specs.declared.file_call.FileCall.TheVariants.{Saved, Cleared}
 use Rattle.item_core.specs.declared.entry.Entry.{Entry}
 use Rattle.item_core.specs.declared.entry.FileKind.{FileKind}
-use Rattle.item_core.specs.declared.entry.FileKind.TheVariants.{Create, Recovered, Adopt, Evict, Discard}
+use Rattle.item_core.specs.declared.entry.FileKind.TheVariants.{Create, Adopt, Evict, Discard}
 use Rattle.item_core.specs.Content.{Known, base_byte, byte_at}
 use Rattle.item_core.specs.History.{is_kept}
 use Rattle.item_core.specs.Names.{names_before}
 use Rattle.item_meta.specs.declared.meta.Meta.{Meta}
-use Rattle.item_image.specs.Facts.{HasFacts, MetaFacts, facts_of}
+use Rattle.item_image.specs.Facts.{HasFacts, facts_of}
 use Rattle.item_image.specs.Premise.{Fits, IsOfImage, IsWholeAs, Pairs}
-use Rattle.item_image.specs.Stands.{EachStands, Means, StandsFor, Tells, laid}
-use Rattle.item_image.specs.Book.{Book, HasMeta, HoldsFor, Keeps, KeepsFor}
+use Rattle.item_image.specs.Stands.{EachStands, Means, Tells, laid}
+use Rattle.item_image.specs.Book.{Book, Keeps, KeepsFor}
 use Rattle.item_image.specs.Calls.{Goes}
 use Rattle.item_image.specs.Entries.{made, recovered_entry}
 use Rattle.item_image.specs.Next.{adopted_meta, fresh_meta}
@@ -33,7 +33,7 @@ pub saved_made : {tells shows : Type 0} {past : List Entry} {names names' : List
     → ((known : Known) → Fits shows known (e ∷ past) pairs' → Fits shows known past pairs)
     → is_kept (e ∷ past) ≡ true → HasFacts (facts_of saved (e ∷ past) names') m
     → (tells → (known : Known) → Fits shows known (e ∷ past) pairs' → IsOfImage known old.told.first
-        → Tells known (facts_of saved (e ∷ past) names') (λ p. byte_at known (e ∷ past) p) m (λ p. data_in (image old.told) p))
+    → Tells known (facts_of saved (e ∷ past) names') (λ p. byte_at known (e ∷ past) p) m (λ p. data_in (image old.told) p))
     → Book tells shows (e ∷ past) names' saved pairs' (Some m) new
 saved_made {text = text} e b g means at n less kept has tells = step_made (Saved text) e b g at n less (kept, has) (λ t known f i. keeps_saved means (tells t known f i))
 

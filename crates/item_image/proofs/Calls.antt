@@ -1,11 +1,11 @@
 -- What each answer of a call says of what it leaves.
-use Rattle.std.proofs.Common.{◌≡◌, ℕ, List, refl, Result, Ok, Err}
+use Rattle.std.proofs.Common.{ℕ, List, refl, Result, Ok, Err}
 use Rattle.vfs_outside.specs.Slot.{IsCall, Makes, Slot, Writes}
 use Rattle.vfs_outside.specs.declared.disk_error.DiskError.{DiskError}
 use Rattle.vfs_outside.specs.declared.disk_error.DiskError.TheVariants.{Failed, NoMemory}
 use Rattle.vfs_outside.specs.declared.file_call.FileCall.{FileCall}
 use Rattle.vfs_outside.specs.declared.file_call.FileCall.TheVariants.{Wrote}
-use Rattle.item_image.specs.Calls.{Does, DoesWrite, Goes, Stays, Tears}
+use Rattle.item_image.specs.Calls.{Does, DoesWrite, Goes, Tears}
 
 -- a call that isn't a write
 pub does : {T : Type 0} {tells : Type 0} {old new : Slot} (c : FileCall) (result : Result T DiskError)

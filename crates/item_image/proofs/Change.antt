@@ -1,15 +1,14 @@
 -- How the calls that change a file keep its book.
-use Rattle.std.proofs.Common.{◌≡◌, ◌≤◌, ◌<◌, ℕ, ◌+◌, ◌-◌, ◌==◌, ◌&&◌, ◌||◌, nat_le, nat_lt, if◌then◌else◌, min, max, Bool, true, false, not, Option, Some, None, List, [], ◌∷◌, length, refl, sym, ap, ◌∙◌, inl, inr, arith, subst}
+use Rattle.std.proofs.Common.{◌≡◌, ◌≤◌, ◌<◌, ℕ, ◌+◌, ◌-◌, ◌==◌, ◌&&◌, nat_le, nat_lt, if◌then◌else◌, min, max, Bool, true, false, Option, Some, None, List, ◌∷◌, length, refl, sym, ap, ◌∙◌, inl, inr, arith, subst}
 use Rattle.std.specs.Prelude.{slice_index}
 use Rattle.std.proofs.lemmas.Bool.{cases_Bool, cases_lt, true≢false}
 use Rattle.std.proofs.lemmas.Bool.Decides.{nat_tests}
 use Rattle.byte_ranges.specs.Ranges.{has, is_in}
-use Rattle.byte_ranges.specs.declared.Span.{Span}
-use Rattle.vfs_names.specs.Payload.{payload_byte, payload_len}
+use Rattle.vfs_names.specs.Payload.{payload_len}
 use Rattle.vfs_names.specs.declared.fingerprint.Fingerprint.{Fingerprint}
 use Rattle.vfs_names.specs.declared.payload.Payload.{Payload}
 use Rattle.vfs_names.specs.declared.who.By.{By}
-use Rattle.vfs_outside.specs.Image.{Image, data_in, is_within, meta_in}
+use Rattle.vfs_outside.specs.Image.{data_in, is_within}
 use Rattle.vfs_outside.specs.Slot.{Slot, image}
 use Rattle.vfs_outside.specs.declared.file_call.FileCall.TheVariants.{Saved, Wrote}
 use Rattle.item_core.specs.declared.entry.Entry.{Entry}
@@ -145,7 +144,7 @@ keeps_settled : {known : Known} {text : Option (List ℕ)} {facts : MetaFacts} {
 keeps_settled {m = m} {stored = stored} {i = i} k is = keeps_moved k refl tt
     (λ p h. ap (λ (x : Option Intent). laid x stored p) (sym is) ∙ k.present p h)
     (λ p h. ap (λ (x : Option Intent). laid x (λ q. laid (Some i) stored q) p) (saved_intent k is) ∙ laid_twice i i stored p
-        ∙ ap (λ (x : Option Intent). laid x stored p) (sym (saved_intent k is)))
+    ∙ ap (λ (x : Option Intent). laid x stored p) (sym (saved_intent k is)))
 
 -- the bytes of a pending intent are written
 pub settled : {tells shows : Type 0} {past : List Entry} {names : List (List ℕ)} {saved : ℕ} {pairs : Pairs} {m m' : Meta} {i : Intent} {old new : Slot}
@@ -159,8 +158,8 @@ keeps_torn : {known : Known} {text : Option (List ℕ)} {facts : MetaFacts} {byt
     → m.intent ≡ Some i → ((p : ℕ) → is_within i.pos (length i.bytes) p ≡ false → stored' p ≡ stored p) → Keeps known text stored' facts bytes m
 keeps_torn {m = m} {stored = stored} {stored' = stored'} {i = i} k is same = keeps_moved k refl k.pending
     (λ p h. over m.intent p is ∙ k.present p h) (λ p h. over k.saved.meta.intent p (saved_intent k is)) where
-  over : (x : Option Intent) (p : ℕ) → x ≡ Some i → laid x stored' p ≡ laid x stored p
-  over x p e = ap (λ (y : Option Intent). laid y stored' p) e ∙ laid_over i stored stored' p (same p) ∙ ap (λ (y : Option Intent). laid y stored p) (sym e)
+      over : (x : Option Intent) (p : ℕ) → x ≡ Some i → laid x stored' p ≡ laid x stored p
+      over x p e = ap (λ (y : Option Intent). laid y stored' p) e ∙ laid_over i stored stored' p (same p) ∙ ap (λ (y : Option Intent). laid y stored p) (sym e)
 
 torn_beside : (pos : ℕ) (left bytes : List ℕ) (stored : ℕ → Option ℕ) (p : ℕ) → length left ≡ length bytes → is_within pos (length bytes) p ≡ false
     → (if is_within pos (length left) p then Some (slice_index left (p - pos)) else stored p) ≡ stored p

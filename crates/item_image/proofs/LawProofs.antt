@@ -1,5 +1,5 @@
 -- The laws of images: which calls leave an image that stands for the same history, and what a restart finds in one.
-use Rattle.std.proofs.Common.{◌≡◌, ◌<◌, ◌≤◌, ℕ, ◌-◌, if◌then◌else◌, Bool, true, false, Option, Some, None, List, [], ◌∷◌, length, refl, sym, ap, ◌∙◌, inl, inr, arith, subst}
+use Rattle.std.proofs.Common.{◌≡◌, ℕ, ◌-◌, Bool, true, false, Option, Some, None, List, [], ◌∷◌, length, refl, sym, ap, ◌∙◌, inl, inr, subst}
 use Rattle.std.specs.Prelude.{IsSome, slice_index, unwrap_or}
 use Rattle.std.proofs.lemmas.Bool.{cases_Bool, true≢false}
 use Rattle.byte_ranges.specs.Ranges.{has}
@@ -13,7 +13,7 @@ use Rattle.item_core.specs.History.{base_end_of, held_by, is_kept}
 use Rattle.item_meta.specs.declared.meta.Intent.{Intent}
 use Rattle.item_meta.specs.declared.meta.Meta.{Meta}
 use Rattle.item_meta.proofs.Back.{text_of_one}
-use Rattle.item_image.specs.Facts.{HasFacts, MetaFacts, facts_of}
+use Rattle.item_image.specs.Facts.{MetaFacts, facts_of}
 use Rattle.item_image.specs.Premise.{IsOfImage, IsWholeAs, saved_by}
 use Rattle.item_image.specs.Stands.{IsSaved, Means, Stands, StandsFor, Tells, laid}
 use Rattle.item_image.specs.Entries.{recovered_entry}
@@ -26,14 +26,14 @@ pub quiet_stands : (known : Known) (saved : ℕ) (image : Image) (past : List En
 quiet_stands known saved image past names s = record { here = s.here; gone = s.gone }
 
 -- there is metadata of a kept file alone
-is_here : {known : Known} {text : Option (List ℕ)} {stored : ℕ → Option ℕ} {kept : Bool} {facts : MetaFacts} {bytes : ℕ → ℕ} {words : List ℕ}
+pub is_here : {known : Known} {text : Option (List ℕ)} {stored : ℕ → Option ℕ} {kept : Bool} {facts : MetaFacts} {bytes : ℕ → ℕ} {words : List ℕ}
     → Stands known text stored kept facts bytes → text ≡ Some words → kept ≡ true
 is_here {kept = kept} {words = words} s e = elim (cases_Bool kept) [ inl t ↦ t | inr n ↦ absurd (none_some words (sym (s.gone n) ∙ e)) ] where
   none_some : (w : List ℕ) → ◌≡◌ {A = Option (List ℕ)} None (Some w) → ⊥
   none_some w h = cc
 
 -- the metadata that an image stands by are those that its text means
-one_saved : {known : Known} {text : Option (List ℕ)} {stored : ℕ → Option ℕ} {facts : MetaFacts} {bytes : ℕ → ℕ} {words : List ℕ} {meta : Meta}
+pub one_saved : {known : Known} {text : Option (List ℕ)} {stored : ℕ → Option ℕ} {facts : MetaFacts} {bytes : ℕ → ℕ} {words : List ℕ} {meta : Meta}
     → IsSaved known text stored facts bytes → text ≡ Some words → Means words meta → Tells known facts bytes meta stored
 one_saved {known} {text} {stored} {facts} {bytes} {words} {meta} s e means = subst (λ (m : Meta). Tells known facts bytes m stored) same s.tells where
   same_words : (a b : List ℕ) → ◌≡◌ {A = Option (List ℕ)} (Some a) (Some b) → a ≡ b

@@ -1,6 +1,7 @@
 pub mod Begin
 pub mod Calls
 pub mod Change
+pub mod Examples
 pub mod Images
 pub mod LawProofs
 pub mod Premises

@@ -1,12 +1,11 @@
 -- What changes nothing of a file: a call that failed or read, a call that was none, an entry that tells no change.
-use Rattle.std.proofs.Common.{◌≡◌, ℕ, ◌==◌, ◌&&◌, nat_le, nat_lt, ◌+◌, Bool, true, false, not, Option, Some, None, List, [], ◌∷◌, length, refl, sym, ap, ◌∙◌, arith, subst, Result, Ok, Err}
+use Rattle.std.proofs.Common.{◌≡◌, ℕ, ◌==◌, ◌&&◌, nat_le, nat_lt, ◌+◌, Bool, true, false, Option, Some, None, List, ◌∷◌, refl, sym, arith, subst, Result, Ok, Err}
 use Rattle.std.proofs.lemmas.Bool.{true≢false}
 use Rattle.std.proofs.lemmas.Bool.Decides.{nat_tests}
 use Rattle.vfs_names.specs.Payload.{payload_len}
 use Rattle.vfs_names.specs.declared.fingerprint.Fingerprint.{Fingerprint}
-use Rattle.vfs_names.specs.declared.payload.Payload.{Payload}
 use Rattle.vfs_names.specs.declared.who.By.{By}
-use Rattle.vfs_outside.specs.Image.{Image, data_in, meta_in}
+use Rattle.vfs_outside.specs.Image.{Image}
 use Rattle.vfs_outside.specs.Slot.{Slot, image}
 use Rattle.vfs_outside.specs.declared.disk_error.DiskError.{DiskError}
 use Rattle.vfs_outside.specs.declared.disk_error.DiskError.TheVariants.{Failed, NoMemory}
@@ -20,8 +19,7 @@ use Rattle.item_core.specs.History.{is_kept}
 use Rattle.item_core.specs.Names.{names_before}
 use Rattle.item_meta.specs.declared.meta.Meta.{Meta}
 use Rattle.item_image.specs.Facts.{HasFacts, MetaFacts, facts_of}
-use Rattle.item_image.specs.Premise.{Fits, IsOfImage, Pairs}
-use Rattle.item_image.specs.Stands.{IsSaved}
+use Rattle.item_image.specs.Premise.{Pairs}
 use Rattle.item_image.specs.Book.{Book, HasMeta, HoldsFor, Keeps}
 use Rattle.item_image.specs.Calls.{Does, Goes, Stays}
 use Rattle.item_image.specs.Entries.{is_plain, made}
@@ -132,9 +130,9 @@ pub plain_entry : {tells shows : Type 0} {past : List Entry} {names : List (List
 plain_entry {past = past} {names = names} {saved = saved} {meta = meta} {slot = slot} by at kind b is plain =
     made_now (made by at kind) b is (plain_names kind names plain) (λ known f. older_fits f)
     (same_meta (is_kept past) (is_kept (made by at kind ∷ past)) (facts_of saved past names) (facts_of saved (made by at kind ∷ past) names) meta
-        (plain_kept kind by at past plain) (plain_facts kind by at saved past names plain) b.kept)
+    (plain_kept kind by at past plain) (plain_facts kind by at saved past names plain) b.kept)
     (λ t known f i. same_holds known saved (image slot.told) past (made by at kind ∷ past) names meta (plain_facts kind by at saved past names plain)
-        (λ p. plain_byte known kind p (byte_at known past p) plain) (b.holds t known (older_fits f) i))
+    (λ p. plain_byte known kind p (byte_at known past p) plain) (b.holds t known (older_fits f) i))
 
 -- one more object was given
 pub more_pairs : {tells shows : Type 0} {past : List Entry} {names : List (List ℕ)} {saved : ℕ} {pairs : Pairs} {meta : Option Meta} {slot : Slot} (pair : Fingerprint × List ℕ)

@@ -1,5 +1,5 @@
 -- What a book says of the bytes that a read gets.
-use Rattle.std.proofs.Common.{◌≡◌, ◌≤◌, ◌<◌, ℕ, ◌+◌, true, false, Option, Some, None, List, length, refl, sym, ap, ◌∙◌, arith, subst}
+use Rattle.std.proofs.Common.{◌≡◌, ◌<◌, ℕ, ◌+◌, true, false, Some, None, List, length}
 use Rattle.std.specs.Prelude.{slice_index}
 use Rattle.byte_ranges.specs.Ranges.{has}
 use Rattle.vfs_outside.specs.Slot.{Reads, Slot, image}

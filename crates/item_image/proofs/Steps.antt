@@ -1,16 +1,16 @@
 -- How a book goes on: by a call, by an entry, or by both.
-use Rattle.std.proofs.Common.{◌≡◌, ◌≤◌, ℕ, suc, ◌+◌, ◌++◌, Bool, true, false, Option, Some, None, List, [], ◌∷◌, length, refl, sym, ap, ◌∙◌, arith, subst}
+use Rattle.std.proofs.Common.{◌≡◌, ◌≤◌, ℕ, suc, Option, Some, None, List, ◌∷◌, length, sym, ap, ◌∙◌, arith, subst}
 use Rattle.std.proofs.lemmas.Bool.{true≢false}
-use Rattle.vfs_outside.specs.Image.{Image, meta_in}
-use Rattle.vfs_outside.specs.Slot.{Slot, Told, image, image_after, with_call}
+use Rattle.vfs_outside.specs.Image.{Image}
+use Rattle.vfs_outside.specs.Slot.{Slot, Told, image, image_after}
 use Rattle.vfs_outside.specs.declared.file_call.FileCall.{FileCall}
 use Rattle.vfs_outside.specs.declared.file_call.FileCall.TheVariants.{Wrote}
 use Rattle.item_core.specs.declared.entry.Entry.{Entry}
 use Rattle.item_core.specs.Content.{Known}
-use Rattle.item_core.specs.History.{at_of, is_kept, place}
+use Rattle.item_core.specs.History.{is_kept, place}
 use Rattle.item_core.specs.Names.{names_at, names_before}
 use Rattle.item_meta.specs.declared.meta.Meta.{Meta}
-use Rattle.item_image.specs.Facts.{MetaFacts, facts_of}
+use Rattle.item_image.specs.Facts.{facts_of}
 use Rattle.item_image.specs.Premise.{Fits, IsOfImage, Pairs}
 use Rattle.item_image.specs.Stands.{EachStands, StandsFor}
 use Rattle.item_image.specs.Book.{Book, HasMeta, HoldsFor}
@@ -48,7 +48,7 @@ step {tells} {shows} {past} {names} {saved} {pairs} {meta} {meta'} {old} {new} c
   counted = λ t. ap (λ (x : Told). length x.since) (g.told t) ∙ (let e : suc (length old.told.since) ≡ new.calls = omega (arith, b.counted t, g.calls) in e);
   images = λ t known f. subst (λ (x : Told). IsOfImage known x.first → EachStands known saved x.first x.since past names) (sym (g.told t))
       (λ i. each_call known saved old.told.first old.told.since c past names (omega (arith, b.late, b.counted t))
-          (stands_of known saved (c ∷ image old.told) past names meta' has (holds t known f i)) (b.images t known f i));
+      (stands_of known saved (c ∷ image old.told) past names meta' has (holds t known f i)) (b.images t known f i));
   holds = λ t known f. subst (λ (x : Told). IsOfImage known x.first → HoldsFor known saved (image x) past names meta') (sym (g.told t)) (holds t known f);
 }
 
@@ -56,7 +56,7 @@ step {tells} {shows} {past} {names} {saved} {pairs} {meta} {meta'} {old} {new} c
 pub step_torn : {tells shows : Type 0} {past : List Entry} {names : List (List ℕ)} {saved : ℕ} {pairs : Pairs} {meta meta' : Option Meta} {old new : Slot} {pos : ℕ} {bytes : List ℕ}
     → Book tells shows past names saved pairs meta old → Tears tells pos bytes old new → HasMeta (is_kept past) (facts_of saved past names) meta'
     → (tells → (known : Known) → Fits shows known past pairs → IsOfImage known old.told.first → (left : List ℕ) → length left ≡ length bytes
-        → HoldsFor known saved (Wrote pos left ∷ image old.told) past names meta')
+    → HoldsFor known saved (Wrote pos left ∷ image old.told) past names meta')
     → Book tells shows past names saved pairs meta' new
 step_torn {tells} {shows} {past} {names} {saved} {pairs} {meta} {meta'} {old} {new} {pos} {bytes} b g has holds = record {
   late = omega (arith, b.late, g.calls);
@@ -64,7 +64,7 @@ step_torn {tells} {shows} {past} {names} {saved} {pairs} {meta} {meta'} {old} {n
   counted = λ t. ap (λ (x : Told). length x.since) (g.told t).2 ∙ (let e : suc (length old.told.since) ≡ new.calls = omega (arith, b.counted t, g.calls) in e);
   images = λ t known f. subst (λ (x : Told). IsOfImage known x.first → EachStands known saved x.first x.since past names) (sym (g.told t).2)
       (λ i. each_call known saved old.told.first old.told.since (Wrote pos (g.told t).0) past names (omega (arith, b.late, b.counted t))
-          (stands_of known saved (Wrote pos (g.told t).0 ∷ image old.told) past names meta' has (holds t known f i (g.told t).0 (g.told t).1)) (b.images t known f i));
+      (stands_of known saved (Wrote pos (g.told t).0 ∷ image old.told) past names meta' has (holds t known f i (g.told t).0 (g.told t).1)) (b.images t known f i));
   holds = λ t known f. subst (λ (x : Told). IsOfImage known x.first → HoldsFor known saved (image x) past names meta') (sym (g.told t).2)
       (λ i. holds t known f i (g.told t).0 (g.told t).1);
 }
@@ -82,7 +82,7 @@ step_made {tells} {shows} {past} {names} {names'} {saved} {pairs} {pairs'} {meta
   counted = λ t. ap (λ (x : Told). length x.since) (g.told t) ∙ (let e : suc (length old.told.since) ≡ new.calls = omega (arith, b.counted t, g.calls) in e);
   images = λ t known f. subst (λ (x : Told). IsOfImage known x.first → EachStands known saved x.first x.since (e ∷ past) names') (sym (g.told t))
       (λ i. each_step known saved old.told.first old.told.since c e past names names' (omega (arith, b.counted t, g.calls, at)) n
-          (stands_of known saved (c ∷ image old.told) (e ∷ past) names' meta' has (holds t known f i)) (b.images t known (less known f) i));
+      (stands_of known saved (c ∷ image old.told) (e ∷ past) names' meta' has (holds t known f i)) (b.images t known (less known f) i));
   holds = λ t known f. subst (λ (x : Told). IsOfImage known x.first → HoldsFor known saved (image x) (e ∷ past) names' meta') (sym (g.told t)) (holds t known f);
 }
 

@@ -1,5 +1,5 @@
 -- How a fetch puts bytes into the data, and then saves that they are there.
-use Rattle.std.proofs.Common.{◌≡◌, ◌≤◌, ◌<◌, ℕ, ◌+◌, ◌-◌, ◌||◌, nat_lt, if◌then◌else◌, Bool, true, false, Option, Some, None, List, ◌∷◌, length, refl, sym, ap, ◌∙◌, inl, inr, arith, subst}
+use Rattle.std.proofs.Common.{◌≡◌, ◌≤◌, ◌<◌, ℕ, ◌+◌, ◌-◌, ◌||◌, if◌then◌else◌, Bool, true, false, Option, Some, None, List, length, refl, sym, ap, ◌∙◌, inl, inr, arith, subst}
 use Rattle.std.specs.Prelude.{slice_index}
 use Rattle.std.proofs.lemmas.Bool.{cases_Bool, cases_lt, true≢false}
 use Rattle.std.proofs.lemmas.Bool.Decides.{nat_tests}
@@ -12,7 +12,7 @@ use Rattle.item_core.specs.declared.entry.Entry.{Entry}
 use Rattle.item_core.specs.Content.{Known, base_byte, byte_at}
 use Rattle.item_core.specs.History.{base_end_of, held_by}
 use Rattle.item_meta.specs.declared.meta.Meta.{Meta}
-use Rattle.item_image.specs.Facts.{HasFacts, MetaFacts, facts_of}
+use Rattle.item_image.specs.Facts.{HasFacts, MetaFacts}
 use Rattle.item_image.specs.Premise.{Fits, IsBase, IsOfImage, Pairs}
 use Rattle.item_image.specs.Stands.{Means, Tells, laid}
 use Rattle.item_image.specs.Book.{Book, Keeps}
@@ -44,7 +44,7 @@ pub stored_beside : {tells shows : Type 0} {past : List Entry} {names : List (Li
     → Book tells shows past names saved pairs (Some m) new
 stored_beside {m = m} {pos = pos} {bytes = bytes} {old = old} b g free = step_torn b g b.kept (λ t known f i left len.
     keeps_beside (b.holds t known f i) (λ p h. beside pos (length left) (λ q. Some (slice_index left (q - pos))) (λ q. data_in (image old.told) q) p
-        (ap (λ n. is_within pos n p) len ∙ outside pos (length bytes) p (has m.ranges p) (free p) h)))
+    (ap (λ n. is_within pos n p) len ∙ outside pos (length bytes) p (has m.ranges p) (free p) h)))
 
 -- ---- what a fetch has put into the data so far
 
@@ -56,15 +56,19 @@ stored_none h = record { stored = λ t known f i p from to out. absurd (omega (a
 pub stored_present : {tells shows : Type 0} {past : List Entry} {pairs : Pairs} {ranges : List Span} {slot : Slot} (start a b : ℕ)
     → HasStored tells shows past pairs ranges (record { start = start; end = a }) slot → ((p : ℕ) → a ≤ p → p < b → has ranges p ≡ true)
     → HasStored tells shows past pairs ranges (record { start = start; end = b }) slot
-stored_present start a b s there = record { stored = λ t known f i p from to out. elim (cases_lt p a) [
-  | inl lt ↦ s.stored t known f i p from lt out
-  | inr le ↦ absurd (true≢false (sym (there p le to) ∙ out))
-] }
+stored_present start a b s there = record {
+  stored = λ t known f i p from to out. elim (cases_lt p a) [
+    | inl lt ↦ s.stored t known f i p from lt out
+    | inr le ↦ absurd (true≢false (sym (there p le to) ∙ out))
+  ];
+}
 
 pub stored_quiet : {tells shows : Type 0} {past : List Entry} {pairs : Pairs} {ranges : List Span} {span : Span} {old new : Slot}
     → HasStored tells shows past pairs ranges span old → Goes tells Quiet old new → HasStored tells shows past pairs ranges span new
-stored_quiet {past = past} {ranges = ranges} {span = span} s g = record { stored = λ t known f. subst (λ (x : Told). IsOfImage known x.first → (p : ℕ) → span.start ≤ p → p < span.end → has ranges p ≡ false
-    → data_in (image x) p ≡ Some (byte_at known past p)) (sym (g.told t)) (s.stored t known f) }
+stored_quiet {past = past} {ranges = ranges} {span = span} s g = record {
+  stored = λ t known f. subst (λ (x : Told). IsOfImage known x.first → (p : ℕ) → span.start ≤ p → p < span.end → has ranges p ≡ false
+      → data_in (image x) p ≡ Some (byte_at known past p)) (sym (g.told t)) (s.stored t known f);
+}
 
 before : (pos n p : ℕ) → p < pos → is_within pos n p ≡ false
 before pos n p h = grind (arith, nat_tests)
@@ -77,18 +81,20 @@ pub stored_more : {tells shows : Type 0} {past : List Entry} {names : List (List
     → HasStored tells shows past pairs m.ranges (record { start = start; end = pos }) old → Book tells shows past names saved pairs (Some m) old
     → Goes tells (Wrote pos bytes) old new → IsBase shows past pairs pos bytes
     → HasStored tells shows past pairs m.ranges (record { start = start; end = pos + length bytes }) new
-stored_more {tells} {shows} {past} {names} {saved} {pairs} {m} {pos} {bytes} {old} {new} start s b g base = record { stored = λ t known f.
-    subst (λ (x : Told). IsOfImage known x.first → (p : ℕ) → start ≤ p → p < pos + length bytes → has m.ranges p ≡ false → data_in (image x) p ≡ Some (byte_at known past p)) (sym (g.told t)) (there t known f) } where
-      there : tells → (known : Known) → Fits shows known past pairs → IsOfImage known old.told.first → (p : ℕ) → start ≤ p → p < pos + length bytes → has m.ranges p ≡ false
-          → (if is_within pos (length bytes) p then Some (slice_index bytes (p - pos)) else data_in (image old.told) p) ≡ Some (byte_at known past p)
-      there t known f i p from to out = elim (cases_lt p pos) [
-        | inl lt ↦ let w : is_within pos (length bytes) p ≡ false = before pos (length bytes) p lt in rw w (s.stored t known f i p from lt out)
-        | inr le ↦
-            let w : is_within pos (length bytes) p ≡ true = inside pos (length bytes) p le to in
-            let k = b.holds t known f i in
-            let at : pos + (p - pos) ≡ p = omega (arith, le) in
-            rw w (ap Some (base.each known f (p - pos) (omega (arith, le, to)) ∙ ap (base_byte known (base_end_of past) (held_by past)) at ∙ sym (k.saved.tells.absent p (keeps_absent k p out))))
-      ]
+stored_more {tells} {shows} {past} {names} {saved} {pairs} {m} {pos} {bytes} {old} {new} start s b g base = record {
+  stored = λ t known f.
+      subst (λ (x : Told). IsOfImage known x.first → (p : ℕ) → start ≤ p → p < pos + length bytes → has m.ranges p ≡ false → data_in (image x) p ≡ Some (byte_at known past p)) (sym (g.told t)) (there t known f);
+} where
+  there : tells → (known : Known) → Fits shows known past pairs → IsOfImage known old.told.first → (p : ℕ) → start ≤ p → p < pos + length bytes → has m.ranges p ≡ false
+      → (if is_within pos (length bytes) p then Some (slice_index bytes (p - pos)) else data_in (image old.told) p) ≡ Some (byte_at known past p)
+  there t known f i p from to out = elim (cases_lt p pos) [
+    | inl lt ↦ let w : is_within pos (length bytes) p ≡ false = before pos (length bytes) p lt in rw w (s.stored t known f i p from lt out)
+    | inr le ↦
+        let w : is_within pos (length bytes) p ≡ true = inside pos (length bytes) p le to in
+        let k = b.holds t known f i in
+        let at : pos + (p - pos) ≡ p = omega (arith, le) in
+        rw w (ap Some (base.each known f (p - pos) (omega (arith, le, to)) ∙ ap (base_byte known (base_end_of past) (held_by past)) at ∙ sym (k.saved.tells.absent p (keeps_absent k p out))))
+  ]
 
 -- zeros, at or above the base end
 pub zeros_base : {shows : Type 0} {past : List Entry} {pairs : Pairs} {pos : ℕ} {bytes : List ℕ} → base_end_of past ≤ pos

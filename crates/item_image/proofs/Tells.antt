@@ -1,16 +1,14 @@
 -- When metadata, with the data, go on telling a file's bytes.
-use Rattle.std.proofs.Common.{◌≡◌, ◌<◌, ℕ, ◌+◌, ◌-◌, ◌&&◌, ◌||◌, nat_le, nat_lt, if◌then◌else◌, Bool, true, false, Option, Some, None, List, length, refl, sym, ap, ◌∙◌, arith, subst}
+use Rattle.std.proofs.Common.{◌≡◌, ℕ, ◌-◌, ◌&&◌, ◌||◌, if◌then◌else◌, Bool, true, false, Option, Some, None, List, length, refl, sym, ap, ◌∙◌}
 use Rattle.std.specs.Prelude.{slice_index}
-use Rattle.std.proofs.lemmas.Bool.{cases_Bool, true≢false}
-use Rattle.std.proofs.lemmas.Bool.Decides.{nat_tests}
+use Rattle.std.proofs.lemmas.Bool.{true≢false}
 use Rattle.byte_ranges.specs.Ranges.{has}
-use Rattle.byte_ranges.specs.declared.Span.{Span}
 use Rattle.vfs_outside.specs.Image.{is_within}
 use Rattle.item_core.specs.Content.{Known}
 use Rattle.item_meta.specs.declared.meta.Intent.{Intent}
 use Rattle.item_meta.specs.declared.meta.Meta.{Meta}
-use Rattle.item_image.specs.Facts.{HasFacts, MetaFacts}
-use Rattle.item_image.specs.Stands.{IsSaved, Means, Tells, laid}
+use Rattle.item_image.specs.Facts.{MetaFacts}
+use Rattle.item_image.specs.Stands.{Means, Tells, laid}
 use Rattle.item_image.specs.Book.{IsPending, Keeps}
 
 -- ---- truth values

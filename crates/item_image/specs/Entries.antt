@@ -5,7 +5,7 @@ use Rattle.vfs_names.specs.declared.who.By.{By}
 use Rattle.item_core.specs.declared.entry.Entry.{Entry}
 use Rattle.item_meta.specs.declared.meta.Meta.{Meta}
 use Rattle.item_core.specs.declared.entry.FileKind.{FileKind}
-use Rattle.item_core.specs.declared.entry.FileKind.TheVariants.{Recovered, Bind, Write, Read, Stat, Opened, Closed, UploadStart, UploadDropped, Refused}
+use Rattle.item_core.specs.declared.entry.FileKind.TheVariants.{Recovered, Bind, Write, Read, Stat, Opened, Closed, UploadStart, Uploaded, UploadDropped, Refused}
 
 abbrev pub made : By → ℕ → FileKind → Entry
 made by at kind = record { by = by; at = at; kind = kind }
@@ -26,3 +26,8 @@ is_plain (UploadStart version) = true
 is_plain (UploadDropped start why) = true
 is_plain (Refused verb why) = true
 is_plain _ = false
+
+-- an upload that ended by saving
+abbrev pub is_saving : FileKind → Bool
+is_saving (Uploaded start print) = true
+is_saving _ = false

@@ -1,11 +1,10 @@
 -- Which metadata a call saves next.
-use Rattle.std.specs.Prelude.{◌≡◌, ℕ, ◌+◌, ◌<◌, ◌&&◌, ◌||◌, max, min, nat_lt, Bool, true, false, Option, Some, None, List, [], length, slice_index}
+use Rattle.std.specs.Prelude.{◌≡◌, ℕ, ◌+◌, ◌<◌, ◌&&◌, ◌||◌, max, min, nat_lt, true, false, Some, None, List, [], length, slice_index}
 use Rattle.byte_ranges.specs.Ranges.{has, is_in}
 use Rattle.byte_ranges.specs.declared.Span.{Span}
 use Rattle.vfs_names.specs.Payload.{payload_byte, payload_len}
 use Rattle.vfs_names.specs.declared.fingerprint.Fingerprint.{Fingerprint}
 use Rattle.vfs_names.specs.declared.payload.Payload.{Payload}
-use Rattle.item_meta.specs.declared.meta.Intent.{Intent}
 use Rattle.item_meta.specs.declared.meta.Meta.{Meta}
 
 -- a file that is made here

@@ -48,13 +48,7 @@ pub fn adopted(alloc: Global, path: VPath, print: Fingerprint, now: u64) -> Meta
 }
 
 /// The metadata after a write, whose bytes are an intent.
-pub fn grown(
-    alloc: Global,
-    meta: &Meta,
-    now: u64,
-    pos: u64,
-    bytes: Blob,
-) -> Result<Meta, NoMemory>
+pub fn grown(alloc: Global, meta: &Meta, now: u64, pos: u64, bytes: Blob) -> Result<Meta, NoMemory>
     requires old { IsMeta meta.now }
     requires some { 0 < length bytes }
     requires most { length bytes ≤ 131072 }

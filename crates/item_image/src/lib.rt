@@ -12,3 +12,6 @@ pub use laws::{
     a_write_beside_the_ranges_or_in_the_intent_changes_nothing,
     each_image_stands_for_what_was_made_by_then,
 };
+
+#[cfg(test)]
+mod tests;
