@@ -1,5 +1,4 @@
-ghost use Rattle.std.specs.Prelude.{◌≡◌, ◌≢◌, ◌+◌, ◌<◌, ◌≤◌, ◌^◌, [], length, IfOk, OnOk};
-ghost use Rattle.byte_ranges.specs.Ranges.{Covers};
+ghost use Rattle.std.specs.Prelude.{◌≡◌, ◌≢◌, ◌+◌, ◌<◌, ◌≤◌, ◌^◌, [], length, IfOk};
 ghost use Rattle.item_meta.specs.InRange.{IsMeta};
 ghost use Rattle.item_image.specs.Next.{IsCut, IsFetched, IsGrown, adopted_meta, fresh_meta, renamed_meta, settled_meta, uploaded_meta};
 
@@ -47,6 +46,25 @@ pub fn adopted(alloc: Global, path: VPath, print: Fingerprint, now: u64) -> Meta
     }
 }
 
+/// The same metadata, with nothing pending.
+fn copied(alloc: Global, meta: &Meta) -> Result<Meta, NoMemory>
+    requires old { IsMeta meta.now }
+    ensures meta { IfOk result (λ new. new ≡ settled_meta meta.now) }
+    ensures fits { IfOk result IsMeta }
+{
+    Ok(Meta {
+        path: meta.path.copy(alloc)?,
+        size: meta.size,
+        base_end: meta.base_end,
+        ranges: meta.ranges.copy()?,
+        base: meta.base,
+        dirty: meta.dirty,
+        mtime: meta.mtime,
+        atime: meta.atime,
+        intent: None,
+    })
+}
+
 /// The metadata after a write, whose bytes are an intent.
 pub fn grown(alloc: Global, meta: &Meta, now: u64, pos: u64, bytes: Blob) -> Result<Meta, NoMemory>
     requires old { IsMeta meta.now }
@@ -57,20 +75,14 @@ pub fn grown(alloc: Global, meta: &Meta, now: u64, pos: u64, bytes: Blob) -> Res
     ensures fits { IfOk result IsMeta }
 {
     let end = pos + bytes.as_slice().len() as u64;
-    let path = meta.path.copy(alloc)?;
-    let mut ranges = meta.ranges.copy()?;
-    ranges.insert(Span { start: pos, end })?;
-    Ok(Meta {
-        path,
-        size: meta.size.max(end),
-        base_end: meta.base_end,
-        ranges,
-        base: meta.base,
-        dirty: true,
-        mtime: now,
-        atime: now,
-        intent: Some(Intent { pos, bytes }),
-    })
+    let mut next = copied(alloc, meta)?;
+    next.ranges.insert(Span { start: pos, end })?;
+    next.size = meta.size.max(end);
+    next.dirty = true;
+    next.mtime = now;
+    next.atime = now;
+    next.intent = Some(Intent { pos, bytes });
+    Ok(next)
 }
 
 /// The metadata after the size is set.
@@ -80,20 +92,14 @@ pub fn cut_to(alloc: Global, meta: &Meta, now: u64, size: u64) -> Result<Meta, N
     ensures meta { IfOk result (λ new. IsCut size now meta.now new) }
     ensures fits { IfOk result IsMeta }
 {
-    let path = meta.path.copy(alloc)?;
-    let mut ranges = meta.ranges.copy()?;
-    ranges.cut(size);
-    Ok(Meta {
-        path,
-        size,
-        base_end: size.min(meta.base_end),
-        ranges,
-        base: meta.base,
-        dirty: true,
-        mtime: now,
-        atime: now,
-        intent: None,
-    })
+    let mut next = copied(alloc, meta)?;
+    next.ranges.cut(size);
+    next.size = size;
+    next.base_end = size.min(meta.base_end);
+    next.dirty = true;
+    next.mtime = now;
+    next.atime = now;
+    Ok(next)
 }
 
 /// The metadata with the span's bytes there as well.
@@ -104,20 +110,9 @@ pub fn fetched(alloc: Global, meta: &Meta, span: Span) -> Result<Meta, NoMemory>
     ensures meta { IfOk result (λ new. IsFetched span meta.now new) }
     ensures fits { IfOk result IsMeta }
 {
-    let path = meta.path.copy(alloc)?;
-    let mut ranges = meta.ranges.copy()?;
-    ranges.insert(span)?;
-    Ok(Meta {
-        path,
-        size: meta.size,
-        base_end: meta.base_end,
-        ranges,
-        base: meta.base,
-        dirty: meta.dirty,
-        mtime: meta.mtime,
-        atime: meta.atime,
-        intent: None,
-    })
+    let mut next = copied(alloc, meta)?;
+    next.ranges.insert(span)?;
+    Ok(next)
 }
 
 /// The metadata of the file at another path.
@@ -127,18 +122,9 @@ pub fn renamed(alloc: Global, meta: &Meta, path: VPath) -> Result<Meta, NoMemory
     ensures meta { IfOk result (λ new. new ≡ renamed_meta path meta.now) }
     ensures fits { IfOk result IsMeta }
 {
-    let ranges = meta.ranges.copy()?;
-    Ok(Meta {
-        path,
-        size: meta.size,
-        base_end: meta.base_end,
-        ranges,
-        base: meta.base,
-        dirty: meta.dirty,
-        mtime: meta.mtime,
-        atime: meta.atime,
-        intent: None,
-    })
+    let mut next = copied(alloc, meta)?;
+    next.path = path;
+    Ok(next)
 }
 
 /// The metadata of a file that was uploaded as this object.
@@ -148,19 +134,11 @@ pub fn uploaded(alloc: Global, meta: &Meta, print: Fingerprint) -> Result<Meta, 
     ensures meta { IfOk result (λ new. new ≡ uploaded_meta print meta.now) }
     ensures fits { IfOk result IsMeta }
 {
-    let path = meta.path.copy(alloc)?;
-    let ranges = meta.ranges.copy()?;
-    Ok(Meta {
-        path,
-        size: meta.size,
-        base_end: meta.size,
-        ranges,
-        base: Some(print),
-        dirty: false,
-        mtime: meta.mtime,
-        atime: meta.atime,
-        intent: None,
-    })
+    let mut next = copied(alloc, meta)?;
+    next.base_end = meta.size;
+    next.base = Some(print);
+    next.dirty = false;
+    Ok(next)
 }
 
 /// The write that was pending is done. Takes no memory.
