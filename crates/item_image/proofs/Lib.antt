@@ -1,0 +1,12 @@
+pub mod Begin
+pub mod Calls
+pub mod Change
+pub mod Examples
+pub mod Images
+pub mod LawProofs
+pub mod Premises
+pub mod Quiet
+pub mod ReadBytes
+pub mod Steps
+pub mod Stored
+pub mod Tells

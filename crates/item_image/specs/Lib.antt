@@ -1,0 +1,9 @@
+pub mod Book
+pub mod Calls
+pub mod Entries
+pub mod Facts
+pub mod Next
+pub mod Premise
+pub mod Restart
+pub mod Stands
+pub mod Stored
