@@ -1,0 +1,5 @@
+pub mod Base
+pub mod Streams
+pub mod Pulls
+pub mod PullsLeft
+pub mod Reads
