@@ -1,0 +1,14 @@
+pub mod Bringing
+pub mod Counted
+pub mod Given
+pub mod Kept
+pub mod Moved
+pub mod Nexts
+pub mod Opened
+pub mod Pulled
+pub mod Putting
+pub mod Refusals
+pub mod Shown
+pub mod Steps
+pub mod Sums
+pub mod Writing

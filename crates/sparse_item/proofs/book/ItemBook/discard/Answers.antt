@@ -1,0 +1,14 @@
+use Rattle.std.proofs.Common.{ap}
+use Rattle.item_meta.specs.declared.meta.Meta.{Meta}
+use Rattle.sparse_item.proofs.Steps.{discarded_sound, moved_sound, same_past, with_meta}
+use Rattle.sparse_item.proofs.book.ItemBook.discard.Goals as goal
+
+pub invariant_of-self : goal.invariant_of-self
+invariant_of-self g c = same_past (discarded_sound c.args.by c.in-Ok.at (with_meta c.self.invariant c.in-Some.is) c.in-Ok.ensures.ok c.in-Ok.ensures.at c.none.ensures.state c.none.ensures.object)
+    c.push.ensures.past
+
+pub invariant_of-self-in-Err-Failed : goal.invariant_of-self-in-Err-Failed
+invariant_of-self-in-Err-Failed g c = moved_sound (with_meta c.self.invariant c.in-Some.is) c.in-Err-Failed.ensures.moves (ap (λ (m : Meta). m.ranges) c.in-Err-Failed.ensures.same)
+
+pub invariant_of-self-in-Err-NoMemory : goal.invariant_of-self-in-Err-NoMemory
+invariant_of-self-in-Err-NoMemory g c = moved_sound (with_meta c.self.invariant c.in-Some.is) c.in-Err-NoMemory.ensures.moves (ap (λ (m : Meta). m.ranges) c.in-Err-NoMemory.ensures.same)
