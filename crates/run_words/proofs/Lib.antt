@@ -1,0 +1,7 @@
+mod Cuts
+mod Lookup
+mod Loop
+mod Meaning
+mod Numbers
+mod SizeWords
+mod Spelling
