@@ -132,6 +132,8 @@ impl<R: Files<File = File> + Clone + Drop> CacheDisk for FolderDisk<R> {
 
     ghost told_files = { λ t. t };
 
+    ghost told_by_files = { λ t. t };
+
     /// Makes the folder where it isn't there, with those above it, and takes its lock. Fails where another disk, of this
     /// process or of another, holds the folder, where this disk holds one already, and where the folder's name is longer
     /// than 3,000 bytes, so that no file's name passes what the system takes.

@@ -266,6 +266,8 @@ impl CacheDisk for MemoryDisk {
 
     ghost told_files = { λ t. t };
 
+    ghost told_by_files = { λ t. t };
+
     fn attach(&mut self, _name: &str) -> Result<(), DiskError>
         ensures fault { HasFault (disk_of self.old).faults (disk_of self.new).faults result }
         ensures out { SameOut (disk_of self.old) (disk_of self.new) }

@@ -52,6 +52,6 @@ pub record TakesBack (slot : ℕ) (told : Told) (old new : Disk) : Type 0 where
   pub here : new.shelf slot ≡ record { now = told; records = told ∷ (old.shelf slot).records }
   pub others : (s : ℕ) → s ≢ slot → new.shelf s ≡ old.shelf s
 
--- the count rose by as many, or to the last value of its type
+-- the count didn't fall, and rose by as many, or to the last value of its type
 abbrev pub RoseBy : ℕ → ℕ → ℕ → Type 0
-RoseBy by before now = min (before + by) (2 ^ 64 - 1) ≤ now
+RoseBy by before now = (before ≤ now) × (min (before + by) (2 ^ 64 - 1) ≤ now)

@@ -46,6 +46,8 @@ pub trait CacheDisk: Drop {
         ensures told { tells →
             TakesBack slot (Self.File.slot file).told (disk self.old) (disk self.new) };
 
-    // a file of a disk that tells is one that tells
+    // a disk tells exactly where its files do
     ghost told_files: { tells → Self.File.tells };
+
+    ghost told_by_files: { Self.File.tells → tells };
 }
