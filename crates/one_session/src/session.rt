@@ -116,6 +116,13 @@ impl<O: Object> OneSession<O> {
         self.steps.push(Step { before, after }).unwrap();
     }
 
+    /// The records of the calls so far, in their order.
+    pub fn records(&self) -> &[Record]
+        ensures { result.now ≡ self.now.records }
+    {
+        self.records.as_slice()
+    }
+
     /// The histories and the records, handed over; takes no memory.
     pub fn into_log(self) -> EpochLog<O>
         ensures tree { result.tree.items ≡ self.tree }

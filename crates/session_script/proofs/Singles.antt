@@ -228,7 +228,7 @@ same_line n text a b f g = same_asked n (words_of text) a b f.words g.words (sam
 
 does_or_refused : (n : ℕ) (text : List ℕ) (a : What) (why : Why) → Does n text a → IsRefused n text why → ⊥
 does_or_refused n text a why f (inl h) = not_bad n text a why f.line h
-does_or_refused n text a why f (inr (b, g, unbuilt, r)) = not_true_and_false (is_built text b) (ap (is_built text) (same_line n text b a g f.line) ∙ f.built) unbuilt
+does_or_refused n text a why f (inr (b, g, unbuilt, r)) = not_true_and_false (is_built b) (ap is_built (same_line n text b a g f.line) ∙ f.built) unbuilt
 
 same_refusal : (n : ℕ) (text : List ℕ) (a b : Why) → IsRefused n text a → IsRefused n text b → a ≡ b
 same_refusal n text a b (inl h) (inl k) = same_bad_line text a b h k

@@ -22,7 +22,7 @@ numbered n (text ∷ texts) = if is_quiet text then numbered (n + 1) texts else 
 -- line n asks for this, and the program can do it
 pub record Does (n : ℕ) (text : List ℕ) (asked : What) : Type 0 where
   pub line : IsLine n text asked
-  pub built : is_built text asked ≡ true
+  pub built : is_built asked ≡ true
 
 -- each line asks for what stands at its place
 abbrev pub AreLines : List (ℕ × List ℕ) → List Line → Type 0
@@ -33,7 +33,7 @@ AreLines (text ∷ texts) (line ∷ found) = (line.line ≡ text.0) × Does text
 
 -- the line is refused: it isn't in the language, or the program can't do it
 abbrev pub IsRefused : ℕ → List ℕ → Why → Type 0
-IsRefused n text reason = IsBadLine text reason ⊎ ((asked : What) × IsLine n text asked × (is_built text asked ≡ false) × (reason ≡ why.Unbuilt))
+IsRefused n text reason = IsBadLine text reason ⊎ ((asked : What) × IsLine n text asked × (is_built asked ≡ false) × (reason ≡ why.Unbuilt))
 
 -- the first line that is refused is this one, for this reason
 abbrev pub IsFirstRefused : List (ℕ × List ℕ) → ℕ → Why → Type 0

@@ -19,7 +19,7 @@ fn read_built(alloc: Global, n: u32, text: &[u8]) -> Result<What, Fault>
 {
     match read_line(alloc, n, text) {
         Ok(asked) => {
-            if is_built(text, &asked) {
+            if is_built(&asked) {
                 Ok(asked)
             } else {
                 Err(Fault::Bad(Why::Unbuilt))

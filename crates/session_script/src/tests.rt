@@ -326,8 +326,15 @@ fn scripts_are_read_to_the_first_refused_line(rt: HostRuntime) -> Result<(), Fai
         (b"s1 open 0 a rw create trunc".as_slice(), (1, "unbuilt", 0)),
         (b"s1 open 0 a w".as_slice(), (1, "unbuilt", 0)),
         (b"s2 close 0".as_slice(), (1, "unbuilt", 0)),
-        (b"s1 write 0 0 hex:68".as_slice(), (1, "unbuilt", 0)),
         (b"s1 stat /".as_slice(), (1, "unbuilt", 0)),
+        (b"s1 size 0 1".as_slice(), (1, "unbuilt", 0)),
+        (b"s2 write 0 0 text:".as_slice(), (1, "unbuilt", 0)),
+        (b"restart".as_slice(), (1, "unbuilt", 0)),
+        (b"join\njoin 1\n".as_slice(), (2, "words", 0)),
+        (
+            b"join\ns1 write 0 0 text:h\ns1 write 0 0 hex:68\njoin\ns1 write 0 0 fill:104:1\ns1 write 0 0 pat:104:1".as_slice(),
+            (0, "good", 6),
+        ),
     ];
     for (text, expected) in table {
         assert!(rt; outcome(rt.alloc(), text)? == expected);

@@ -2,7 +2,7 @@
 use Rattle.std.proofs.Common.{◌≡◌, ◌⊎◌, ◌≤◌, ◌++◌, ◌∷◌, [], ℕ, List, Option, inl, inr, refl, subst, sym}
 use Rattle.std.specs.List.{AllByRecursion}
 use Rattle.vfs_names.specs.declared.fingerprint.Fingerprint.{Fingerprint}
-use Rattle.vfs_outside.specs.Causes.{AppendsFront, Rose}
+use Rattle.vfs_outside.specs.Causes.{AppendsFront}
 use Rattle.vfs_outside.specs.Outside.{Outside}
 use Rattle.vfs_outside.specs.declared.tree.TreeEntry.{TreeEntry}
 use Rattle.session_script.specs.declared.call.Line.{Line}
@@ -12,7 +12,8 @@ use Rattle.vfs_top.proofs.Going.{later_cause}
 use Rattle.vfs_top.proofs.Texts.{none_written}
 use Rattle.vfs_top.specs.Ended.{Breaks, BreaksAttached, DoesAll, DoesNothing, DoesSome, IsStop, StarvesAttached, Told, told}
 use Rattle.vfs_top.specs.Epoch.{Epoch}
-use Rattle.vfs_top.specs.Phase.{DoesFront, IsPhase}
+use Rattle.vfs_top.specs.Event.{Event, calls_of}
+use Rattle.vfs_top.specs.Phases.{DoesFront, IsEpoch}
 use Rattle.vfs_top.specs.Script.{IsReady}
 use Rattle.vfs_top.specs.Stop.{stop_text}
 use Rattle.vfs_top.specs.declared.stop.Stop.{Stop}
@@ -54,36 +55,36 @@ pub breaks_still : (tells : Type 0) (words : List (List ℕ)) (old : Told) (left
 breaks_still tells words old left source_faults written a b moment remote epochs (inl p) = inl (record { stop = p.stop; cause = stop_still words old left source_faults written a b moment remote p.stop p.cause; text = p.text; none = p.none })
 breaks_still tells words old left source_faults written a b moment remote epochs (inr p) = inr (record { script = p.script; ready = p.ready; some = p.some })
 
--- a phase after the remote was attached, told from before
+-- an epoch after the remote was attached, told from before
 module _ (tells : Type 0) (before after : ℕ) (old mid new : Outside) (more : List (Fingerprint × List ℕ)) (f : old.faults ≤ mid.faults) (g : old.changes ≤ mid.changes) (h : mid.handed ≡ more ++ old.handed) where
   causes_before : (served : List Served) (tree : List TreeEntry) → AllByRecursion (λ (d : Served). HasRemoteCause d.line.call d.done tree mid new) served → AllByRecursion (λ (d : Served). HasRemoteCause d.line.call d.done tree old new) served
   causes_before [] tree causes = tt
   causes_before (d ∷ served) tree causes = (later_cause d.line.call d.done tree old mid new more f g h causes.0, causes_before served tree causes.1)
 
-  phase_before : (lines : List Line) (e : Epoch) → IsPhase tells before after mid new lines e → IsPhase tells before after old new lines e
-  phase_before lines e p = record {
-    served = p.served;
-    moment = p.moment;
-    no_sooner = p.no_sooner;
-    no_later = p.no_later;
-    makers = p.makers;
+  epoch_before : (lines : List Line) (events : List Event) (e : Epoch) → IsEpoch tells before after mid new lines events e → IsEpoch tells before after old new lines events e
+  epoch_before lines events e p = record {
     asked = p.asked;
+    first = p.first;
+    no_sooner = p.no_sooner;
+    timely = p.timely;
+    last = p.last;
     recorded = p.recorded;
-    causes = causes_before p.served e.tree p.causes;
+    causes = causes_before (calls_of events) e.tree p.causes;
     left = p.left;
     steps = p.steps;
     matching = p.matching;
     whole = p.whole;
+    phases = p.phases;
   }
 
   pub all_before : (written written' : Option (List ℕ)) (script : List Line) (epochs : List Epoch) → DoesAll tells written written' before after mid new script epochs → DoesAll tells written written' before after old new script epochs
-  all_before written written' script epochs p = record { epoch = p.epoch; kept = p.kept; phase = phase_before script p.epoch p.phase; text = p.text }
+  all_before written written' script epochs p = record { epoch = p.epoch; kept = p.kept; events = p.events; did = epoch_before script p.events p.epoch p.did; text = p.text }
 
-  front_before : (script : List Line) (e : Epoch) → DoesFront tells before after mid new script e → DoesFront tells before after old new script e
-  front_before script e p = record { lines = p.lines; others = p.others; front = p.front; phase = phase_before p.lines e p.phase }
+  front_before : (script : List Line) (events : List Event) (e : Epoch) → DoesFront tells before after mid new script events e → DoesFront tells before after old new script events e
+  front_before script events e p = record { lines = p.lines; others = p.others; front = p.front; did = epoch_before p.lines events e p.did }
 
   pub some_before : (written written' : Option (List ℕ)) (script : List Line) (epochs : List Epoch) → DoesSome tells written written' before after mid new script epochs → DoesSome tells written written' before after old new script epochs
-  some_before written written' script epochs p = record { epoch = p.epoch; kept = p.kept; did = front_before script p.epoch p.did; text = p.text }
+  some_before written written' script epochs p = record { epoch = p.epoch; kept = p.kept; events = p.events; did = front_before script p.events p.epoch p.did; text = p.text; told = p.told }
 
   pub starved_before : (written written' : Option (List ℕ)) (script : List Line) (epochs : List Epoch) → DoesNothing written written' epochs ⊎ DoesSome tells written written' before after mid new script epochs → StarvesAttached tells written written' before after old new script epochs
   starved_before written written' script epochs (inl p) = inl p

@@ -1,9 +1,10 @@
--- How a phase goes on from call to call.
-use Rattle.std.proofs.Common.{◌≡◌, ◌∙◌, ◌⊎◌, inl, inr, ℕ, zero, suc, ◌+◌, ◌<◌, ◌≤◌, ◌++◌, Option, None, Some, List, [], ◌∷◌, length, map, reverse, take, drop, get_or, add-one, ap, append_assoc, arith, drop-cons, length-append, refl, subst, sym}
+-- How an epoch goes on by a call.
+use Rattle.std.proofs.Common.{◌≡◌, ◌∙◌, ◌⊎◌, inl, inr, ℕ, zero, suc, ◌≤◌, ◌++◌, Option, None, Some, List, [], ◌∷◌, length, map, reverse, take, ap, append_assoc, arith, length-append, refl, subst, sym}
 use Rattle.std.proofs.lemmas.Grind.{common_steps}
 use Rattle.std.proofs.lemmas.List.{reverse-append}
 use Rattle.std.specs.List.{AllByRecursion}
 use Rattle.std.specs.Prelude.{IsSomeAnd}
+use Rattle.vfs_names.specs.declared.who.By.{By}
 use Rattle.vfs_names.specs.declared.fingerprint.Fingerprint.{Fingerprint}
 use Rattle.vfs_outside.proofs.Told.{later_rose, rose_later}
 use Rattle.vfs_outside.specs.Causes.{Rose}
@@ -12,17 +13,16 @@ use Rattle.vfs_outside.specs.declared.tree.TreeEntry.{TreeEntry}
 use Rattle.session_script.specs.declared.call.Call.{Call}
 use Rattle.session_script.specs.declared.call.Call.TheVariants as call
 use Rattle.session_script.specs.declared.call.Line.{Line}
-use Rattle.session_script.specs.declared.call.What.{What}
 use Rattle.session_script.specs.declared.call.What.TheVariants as what
 use Rattle.session_script.specs.declared.call.CallLine.{CallLine}
 use Rattle.session_text.specs.declared.reply.Record.{Record}
-use Rattle.one_session.specs.Causes.{AreGiven, AreSteps, CauseOf, HandsBig, HasObjectCause, HasOpenCause, HasRemoteCause, IsUnshown, ReadCause, TakesStep, ends_gone}
-use Rattle.one_session.specs.Served.{Served, Serves, open_at}
+use Rattle.one_session.specs.Causes.{AreSteps, CauseOf, HandsBig, HasObjectCause, HasRemoteCause, IsUnshown, ReadCause, TakesStep, ends_gone}
+use Rattle.one_session.specs.Served.{Served, open_at}
 use Rattle.one_session.specs.State.{State, Step, file_at}
 use Rattle.one_session.specs.Tree.{shown}
-use Rattle.one_session.specs.Whole.{IsUpTo}
 use Rattle.one_session.specs.declared.handle.Handle.{Handle}
-use Rattle.vfs_top.specs.Phase.{IsGoing, ServesAsked, line_of, maker_at}
+use Rattle.vfs_top.specs.Event.{Event, Called, calls_of, line_of}
+use Rattle.vfs_top.specs.Going.{IsGoing, MakesCall, Now}
 
 take_front : {A : Type 0} (xs ys : List A) (k : ℕ) → k ≤ length xs → take k (xs ++ ys) ≡ take k xs
 take_front [] ys zero le = refl
@@ -108,9 +108,8 @@ causes_later : (served : List Served) (tree more : List TreeEntry) (a b z : Outs
 causes_later [] tree more a b z extra h f g e = tt
 causes_later (d ∷ served) tree more a b z extra h f g e = (cause_later d.line.call d.done tree more a b z extra h.0 f g e, causes_later served tree more a b z extra h.1 f g e)
 
-lines_more : (call : CallLine) (d : Served) (served : List Served) (line : Line) (left lines : List Line) → line_of d ≡ line
-    → map line_of (reverse served) ++ line ∷ left ≡ lines → map line_of (reverse (d ∷ served)) ++ left ≡ lines
-lines_more call d served line left lines e h = grind (arith, common_steps, e, h)
+pub lines_more : (e : Event) (older : List Event) (line : Line) (left lines : List Line) → line_of e ≡ line → map line_of (reverse older) ++ line ∷ left ≡ lines → map line_of (reverse (e ∷ older)) ++ left ≡ lines
+lines_more e older line left lines is asked = grind (arith, common_steps, is, asked)
 
 -- why a read is refused, by the same handles
 cause_along : (opened opened' : ℕ → Option Handle) (c : Call) (done : Record) (step : Step) → ((h : ℕ) → opened h ≡ opened' h) → ReadCause c done opened step → ReadCause c done opened' step
@@ -135,55 +134,34 @@ steps_more d served s t handles x steps =
     step : Step
     step = record { before = s.behind; after = t.behind }
 
-serve_call : (tells : Type 0) (moment : ℕ) (a b z : Outside) (lines left : List Line) (line : ℕ) (c : CallLine) (s t : State) (done : Record)
-    → IsGoing tells moment a b lines (record { line = line; what = what.Call c } ∷ left) s → Serves 1 tells b.handed z.handed (maker_at moment) c done s t → HasRemoteCause c.call done t.tree b z → TakesStep c.call done s t → AreGiven tells z.handed t.pairs
-    → IsUpTo (maker_at moment) t.files → s.room ≤ t.room + 1 → IsGoing tells moment a z lines left t
-serve_call tells moment a b z lines left line c s t done p q h x given u r =
-    let d : Served = record { by = maker_at moment; line = c; done = done } in
-    let e : line_of d ≡ record { line = line; what = what.Call c } = ap (λ n. record { line = n; what = what.Call c }) (sym p.calls.0.0) in
+-- a call more was made
+pub call_made : (tells : Type 0) (start a b : Now) (lines left : List Line) (n : ℕ) (c : CallLine) (by : By) (events : List Event)
+    → IsGoing tells start lines (record { line = n; what = what.Call c } ∷ left) by events a → (x : MakesCall tells by c a b) → IsGoing tells start lines left by (Called (record { by = by; line = c; done = x.done }) ∷ events) b
+call_made tells start a b lines left n c by events p x =
+    let d : Served = record { by = by; line = c; done = x.done } in
+    let e : line_of (Called d) ≡ record { line = n; what = what.Call c } = ap (λ n. record { line = n; what = what.Call c }) (sym p.can.0.0) in
     record {
-      served = d ∷ p.served;
-      fits = q.fits p.served p.fits;
-      given = given;
-      limit = q.limit ∙ p.limit;
-      later = u;
-      asked = lines_more c d p.served (record { line = line; what = what.Call c }) left lines e p.asked;
-      makers = (refl, p.makers);
+      asked = lines_more (Called d) events (record { line = n; what = what.Call c }) left lines e p.asked;
+      first = p.first;
+      no_sooner = p.no_sooner;
+      timely = (p.maker, p.timely);
+      is_now = p.is_now ∙ sym x.moment;
+      maker = p.maker;
+      later = x.later;
+      fits = x.serves.fits (calls_of events) p.fits;
+      given = x.given;
+      limit = x.serves.limit ∙ p.limit;
       causes = (
-        later_cause c.call done t.tree a b z p.more p.faults p.changes p.handed h,
-        subst (λ tree. AllByRecursion (λ (d : Served). HasRemoteCause d.line.call d.done tree a z) p.served) (sym q.grew) (causes_later p.served s.tree q.more a b z h.more p.causes h.faults h.changes h.handed),
+        later_cause c.call x.done b.session.tree start.remote a.remote b.remote p.more p.remote_faults p.changes p.handed x.cause,
+        subst (λ tree. AllByRecursion (λ (d : Served). HasRemoteCause d.line.call d.done tree start.remote b.remote) (calls_of events)) (sym x.serves.grew)
+            (causes_later (calls_of events) a.session.tree x.serves.more start.remote a.remote b.remote x.cause.more p.causes x.cause.faults x.cause.changes x.cause.handed),
       );
-      steps = steps_more d p.served s t p.fits.handles x p.steps;
-      faults = omega (arith, p.faults, h.faults);
-      changes = omega (arith, p.changes, h.changes);
-      more = h.more ++ p.more;
-      handed = handed_twice h.more p.more a.handed b.handed z.handed p.handed h.handed;
-      calls = p.calls.1;
-      room = omega (arith, p.room, r);
+      steps = steps_more d (calls_of events) a.session b.session p.fits.handles x.step p.steps;
+      remote_faults = omega (arith, p.remote_faults, x.cause.faults);
+      changes = omega (arith, p.changes, x.cause.changes);
+      more = x.cause.more ++ p.more;
+      handed = handed_twice x.cause.more p.more start.remote.handed a.remote.handed b.remote.handed p.handed x.cause.handed;
+      can = p.can.1;
+      room = omega (arith, p.room, x.room);
+      few = omega (arith, p.few);
     }
-
--- one call more was served
-pub next_call : (tells : Type 0) (moment : ℕ) (a b z : Outside) (lines left : List Line) (line : Line) (s t : State)
-    → IsGoing tells moment a b lines (line ∷ left) s → ServesAsked tells (maker_at moment) line.what s t b z → AreGiven tells z.handed t.pairs → IsUpTo (maker_at moment) t.files → s.room ≤ t.room + 1 → IsGoing tells moment a z lines left t
-next_call tells moment a b z lines left line s t p q v u r = next tells moment a b z lines left line.line line.what s t p q v u r
-  where
-    next : (tells : Type 0) (moment : ℕ) (a b z : Outside) (lines left : List Line) (n : ℕ) (asked : What) (s t : State)
-        → IsGoing tells moment a b lines (record { line = n; what = asked } ∷ left) s → ServesAsked tells (maker_at moment) asked s t b z → AreGiven tells z.handed t.pairs → IsUpTo (maker_at moment) t.files → s.room ≤ t.room + 1
-        → IsGoing tells moment a z lines left t
-    next tells moment a b z lines left n (what.Call c) s t p q v u r = serve_call tells moment a b z lines left n c s t q.0 p q.1 q.2 q.3 v u r
-    next tells moment a b z lines left n (what.Advance ms) s t p q v u r = absurd q
-    next tells moment a b z lines left n what.Tick s t p q v u r = absurd q
-    next tells moment a b z lines left n what.Clean s t p q v u r = absurd q
-    next tells moment a b z lines left n what.Poll s t p q v u r = absurd q
-    next tells moment a b z lines left n what.Join s t p q v u r = absurd q
-    next tells moment a b z lines left n what.Restart s t p q v u r = absurd q
-
--- the call of the line at an index was served
-pub next_at : (tells : Type 0) (moment : ℕ) (a b z : Outside) (lines : List Line) (i : ℕ) (line : Line) (s t : State) → i < length lines → line ≡ get_or lines i line
-    → IsGoing tells moment a b lines (drop i lines) s → ServesAsked tells (maker_at moment) line.what s t b z → AreGiven tells z.handed t.pairs → IsUpTo (maker_at moment) t.files → s.room ≤ t.room + 1 → IsGoing tells moment a z lines (drop (i + 1) lines) t
-next_at tells moment a b z lines i line s t inside is p q v u r =
-    next_call tells moment a b z lines (drop (i + 1) lines) line s t
-    (subst (λ left. IsGoing tells moment a b lines left s) (at_index lines i line inside is) p) q v u r
-  where
-    at_index : (lines : List Line) (i : ℕ) (line : Line) → i < length lines → line ≡ get_or lines i line → drop i lines ≡ line ∷ drop (i + 1) lines
-    at_index lines i line inside is = rw (add-one, drop-cons lines i line) (ap (λ x. x ∷ drop (suc i) lines) (sym is))

@@ -1,6 +1,10 @@
 mod Begun
 pub mod Breaking
-pub mod Calls
+pub mod Built
+mod Ending
 mod Going
+mod Joining
+mod Phased
 mod Pieces
 pub mod Texts
+mod Told

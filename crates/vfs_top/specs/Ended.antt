@@ -1,16 +1,20 @@
 -- How a run ends.
-use Rattle.std.specs.Prelude.{◌≡◌, ◌⊎◌, ℕ, Option, List, [], ◌∷◌}
+use Rattle.std.specs.Prelude.{◌≡◌, ◌⊎◌, ℕ, ◌++◌, Option, List, [], ◌∷◌, Result, OnOk}
 use Rattle.std.specs.Io.KnownBytes.{Appends}
 use Rattle.vfs_outside.specs.Causes.{AppendsFront, Rose}
 use Rattle.vfs_outside.specs.Outside.{Outside}
 use Rattle.session_script.specs.declared.call.Line.{Line}
+use Rattle.session_text.specs.Lines.{end_text, start_text}
 use Rattle.vfs_top.specs.Epoch.{Epoch}
-use Rattle.vfs_top.specs.Phase.{DoesFront, IsPhase}
+use Rattle.vfs_top.specs.Event.{Event, before_last}
+use Rattle.vfs_top.specs.Phases.{DoesFront, IsEpoch}
 use Rattle.vfs_top.specs.Script.{IsReady}
 use Rattle.vfs_top.specs.Stop.{Stops, no_memory_text, status_of, stop_text}
-use Rattle.vfs_top.specs.Transcript.{replies_of, transcript}
+use Rattle.vfs_top.specs.Transcript.{end_block, shown_in, texts_of, transcript}
+use Rattle.vfs_top.specs.Writing.{AppendsPast, Writes}
 use Rattle.vfs_top.specs.declared.stop.Stop.{Stop}
 use Rattle.vfs_top.specs.declared.stop.Stop.TheVariants as stops
+use Rattle.vfs_top.specs.declared.write.Unwritten.{Unwritten}
 
 -- what the things outside tell at a moment: what the source has left, what the sink holds, how often each of the two
 -- failed, the clock's last answer, and the remote's counts
@@ -26,23 +30,48 @@ abbrev pub told : Option (List ℕ) → ℕ → Option (List ℕ) → ℕ → �
 told left source_faults written sink_faults moment remote =
     record { left = left; source_faults = source_faults; written = written; sink_faults = sink_faults; moment = moment; remote = remote }
 
--- what is printed of a run with one epoch
-abbrev pub printed : Epoch → List ℕ
-printed e = transcript ((replies_of e, e) ∷ [])
+-- what is printed of a run with one epoch, in which these events came about
+abbrev pub printed : List Event → Epoch → List ℕ
+printed events e = transcript ((shown_in events, e) ∷ [])
 
--- all lines were done in one epoch, and the whole transcript was written
+-- All lines were done in one epoch, and the whole transcript was written.
 pub record DoesAll (tells : Type 0) (written written' : Option (List ℕ)) (before after : ℕ) (old new : Outside) (script : List Line) (epochs : List Epoch) : Type 0 where
   pub epoch : Epoch
   pub kept : epochs ≡ epoch ∷ []
-  pub phase : IsPhase tells before after old new script epoch
-  pub text : Appends written written' (printed epoch)
+  pub events : List Event
+  pub did : IsEpoch tells before after old new script events epoch
+  pub text : Appends written written' (printed events epoch)
 
--- a front of the lines was done, and a front of their transcript was written
+-- nothing was done, or the start was written and all that was shown before the last phase in which something was done
+abbrev pub WasTold : Option (List ℕ) → Option (List ℕ) → List Event → Type 0
+WasTold written written' events = (events ≡ []) ⊎ AppendsPast written written' (start_text 0 0 0 ++ texts_of (before_last events))
+
+-- A front of the lines was done, and a front of their transcript was written. A phase was begun only once all was written that
+-- those before it showed.
 pub record DoesSome (tells : Type 0) (written written' : Option (List ℕ)) (before after : ℕ) (old new : Outside) (script : List Line) (epochs : List Epoch) : Type 0 where
   pub epoch : Epoch
   pub kept : epochs ≡ epoch ∷ []
-  pub did : DoesFront tells before after old new script epoch
-  pub text : AppendsFront written written' (printed epoch)
+  pub events : List Event
+  pub did : DoesFront tells before after old new script events epoch
+  pub text : AppendsFront written written' (printed events epoch)
+  pub told : WasTold written written' events
+
+-- Once the start was written: what the lines showed was written, and the end, or not. Nothing was done in a phase before all
+-- was written that those before it showed.
+pub record RunsLines (tells : Type 0) (written written' : Option (List ℕ)) (faults faults' before after : ℕ) (old new : Outside) (script : List Line) (e : Epoch) (result : Result (Unit {0}) Unwritten) : Type 0 where
+  pub events : List Event
+  pub did : DoesFront tells before after old new script events e
+  pub all : OnOk result (IsEpoch tells before after old new script events e)
+  pub text : Writes written written' faults faults' (texts_of events ++ (end_block e ++ end_text 0)) result
+  pub told : AppendsPast written written' (texts_of (before_last events))
+
+-- an epoch of these lines was run, and written or not
+pub record RunsEpoch (tells : Type 0) (written written' : Option (List ℕ)) (faults faults' before after : ℕ) (old new : Outside) (script : List Line) (e : Epoch) (result : Result (Unit {0}) Unwritten) : Type 0 where
+  pub events : List Event
+  pub did : DoesFront tells before after old new script events e
+  pub all : OnOk result (IsEpoch tells before after old new script events e)
+  pub text : Writes written written' faults faults' (printed events e) result
+  pub told : WasTold written written' events
 
 -- nothing was done or written
 pub record DoesNothing (written written' : Option (List ℕ)) (epochs : List Epoch) : Type 0 where

@@ -1,6 +1,8 @@
 pub mod Ended
 pub mod Epoch
-pub mod Phase
+pub mod Event
+pub mod Going
+pub mod Phases
 pub mod Script
 pub mod Stop
 pub mod Transcript

@@ -8,9 +8,9 @@ use Rattle.session_text.specs.Entries.{file_block}
 use Rattle.session_text.specs.Lines.{end_text, queue_block, shown_text, start_text}
 use Rattle.session_text.specs.Tree.{tree_block}
 use Rattle.session_text.specs.declared.shown.Shown.{Shown}
-use Rattle.session_text.specs.declared.shown.Shown.TheVariants.{Replied}
 use Rattle.one_session.specs.State.{History}
 use Rattle.vfs_top.specs.Epoch.{Epoch}
+use Rattle.vfs_top.specs.Event.{Event, shown_of}
 
 -- a file's history, with its number and the path that it has now
 abbrev pub file_text : ℕ → History → List ℕ
@@ -51,6 +51,9 @@ abbrev pub transcript : List (List Shown × Epoch) → List ℕ
 transcript [] = end_text 0
 transcript (e ∷ es) = epoch_text e.0 e.1 ++ transcript es
 
--- each call showed its reply
-abbrev pub replies_of : Epoch → List Shown
-replies_of e = map Replied e.records
+-- what the lines of some events showed, the events being given newest first
+abbrev pub shown_in : List Event → List Shown
+shown_in events = map shown_of (reverse events)
+
+abbrev pub texts_of : List Event → List ℕ
+texts_of events = shown_texts (shown_in events)

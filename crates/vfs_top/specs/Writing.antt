@@ -1,5 +1,5 @@
 -- What writing a text says. What a sink holds is known where it tells.
-use Rattle.std.specs.Prelude.{◌≡◌, ℕ, ◌≤◌, Option, List, Result, Err, OnErr, OnOk}
+use Rattle.std.specs.Prelude.{◌≡◌, ℕ, ◌≤◌, ◌++◌, Option, List, Result, Err, OnErr, OnOk}
 use Rattle.std.specs.Io.KnownBytes.{Appends}
 use Rattle.vfs_outside.specs.Causes.{AppendsFront, Rose}
 use Rattle.vfs_top.specs.declared.write.Unwritten.{Unwritten}
@@ -11,3 +11,7 @@ pub record Writes (old new : Option (List ℕ)) (before after : ℕ) (text : Lis
   pub front : OnErr result (AppendsFront old new text)
   pub rose : result ≡ Err Failed → Rose before after
   pub later : before ≤ after
+
+-- this text was appended, and maybe more behind it
+abbrev pub AppendsPast : Option (List ℕ) → Option (List ℕ) → List ℕ → Type 0
+AppendsPast old new text = (more : List ℕ) × Appends old new (text ++ more)

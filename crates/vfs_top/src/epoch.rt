@@ -1,15 +1,15 @@
-ghost use Rattle.std.specs.Prelude.{◌≡◌, ◌≤◌, ◌++◌, [], ℕ, List, OnOk, length};
-ghost use Rattle.session_script.specs.declared.call.Line.{Line};
+ghost use Rattle.std.specs.Prelude.{◌≡◌, ◌≤◌, ◌++◌, [], ℕ, List, length};
+ghost use Rattle.session_text.specs.Lines.{end_text};
 ghost use Rattle.vfs_names.specs.declared.fingerprint.Fingerprint.{Fingerprint};
 ghost use Rattle.memory_item.specs.Known.{Holds};
 ghost use Rattle.one_session.specs.Served.{Fits};
-ghost use Rattle.vfs_top.specs.Ended.{printed};
+ghost use Rattle.vfs_top.specs.Ended.{RunsEpoch, RunsLines};
 ghost use Rattle.vfs_top.specs.Epoch.{epoch_of};
-ghost use Rattle.vfs_top.specs.Phase.{AreCalls, DoesFront, IsPhase, IsUntouched, history_limit};
-ghost use Rattle.vfs_top.specs.Writing.{Writes};
+ghost use Rattle.vfs_top.specs.Going.{CanDoAll, IsUntouched};
+ghost use Rattle.vfs_top.specs.Phases.{history_limit};
 
-use crate::phase::serve_all;
-use crate::write::{Unwritten, write_epoch, write_start};
+use crate::lines::do_lines;
+use crate::write::{Unwritten, write_ending, write_start};
 use one_session::{EpochLog, OneSession};
 use session_script::Line;
 use std::alloc::Global;
@@ -22,7 +22,7 @@ pub struct Ran<O: Object> {
     pub wrote: Result<(), Unwritten>,
 }
 
-/// Does the lines of a script. Where the sink fails at the start, no call is run.
+/// Does the lines of a script. Where the sink fails at the start, no line is done.
 pub fn run_epoch<K: Sink, R: Remote, C: Clock, G: Gate>(
     alloc: Global,
     session: OneSession<R::Object>,
@@ -37,21 +37,15 @@ pub fn run_epoch<K: Sink, R: Remote, C: Clock, G: Gate>(
     requires limit { session.limit ≡ history_limit }
     requires none { session.files ≡ [] }
     requires untouched { IsUntouched session }
-    requires calls { AreCalls lines.now }
+    requires can { CanDoAll lines.now }
+    requires few { length lines.now ≤ 65536 }
     requires room { length lines.now ≤ session.room }
-    ensures done { OnOk result.wrote (IsPhase R.Object.tells (C.moment clock.old) (C.moment clock.new)
-        (R.outside remote.old) (R.outside remote.new) lines.now (epoch_of result.log)) }
-    ensures front { DoesFront R.Object.tells (C.moment clock.old) (C.moment clock.new)
-        (R.outside remote.old) (R.outside remote.new) lines.now (epoch_of result.log) }
-    ensures text { Writes (K.written sink.old) (K.written sink.new) (K.faults sink.old) (K.faults sink.new)
-        (printed (epoch_of result.log)) result.wrote }
+    ensures { RunsEpoch R.Object.tells (K.written sink.old) (K.written sink.new) (K.faults sink.old) (K.faults sink.new)
+        (C.moment clock.old) (C.moment clock.new) (R.outside remote.old) (R.outside remote.new)
+        lines.now (epoch_of result.log) result.wrote }
 {
     match write_start(alloc, sink) {
-        Ok(()) => {
-            let log = run_phase(alloc, session, remote, clock, lines, gate);
-            let wrote = write_epoch(alloc, sink, &log);
-            Ran { log, wrote }
-        }
+        Ok(()) => run_lines(alloc, session, sink, remote, clock, lines, gate),
         Err(why) => Ran {
             log: session.into_log(),
             wrote: Err(why),
@@ -59,27 +53,38 @@ pub fn run_epoch<K: Sink, R: Remote, C: Clock, G: Gate>(
     }
 }
 
-/// Serves the calls of the lines at the moment that the clock tells.
-fn run_phase<R: Remote, C: Clock, G: Gate>(
+/// Does the lines, and writes the epoch's end.
+fn run_lines<K: Sink, R: Remote, C: Clock, G: Gate>(
     alloc: Global,
     session: OneSession<R::Object>,
+    sink: &mut K,
     remote: &mut R,
     clock: &mut C,
     lines: &[Line],
     gate: &G,
-) -> EpochLog<R::Object>
+) -> Ran<R::Object>
     requires new { (handed : List (Fingerprint × List ℕ)) → Fits 1 (Holds R.Object.tells handed) [] session }
     requires given { session.pairs ≡ [] }
     requires limit { session.limit ≡ history_limit }
     requires none { session.files ≡ [] }
     requires untouched { IsUntouched session }
-    requires calls { AreCalls lines.now }
+    requires can { CanDoAll lines.now }
+    requires few { length lines.now ≤ 65536 }
     requires room { length lines.now ≤ session.room }
-    ensures { IsPhase R.Object.tells (C.moment clock.old) (C.moment clock.new) (R.outside remote.old) (R.outside remote.new)
-        lines.now (epoch_of result) }
+    ensures { RunsLines R.Object.tells (K.written sink.old) (K.written sink.new) (K.faults sink.old) (K.faults sink.new)
+        (C.moment clock.old) (C.moment clock.new) (R.outside remote.old) (R.outside remote.new)
+        lines.now (epoch_of result.log) result.wrote }
 {
     let mut session = session;
-    let moment = clock.now();
-    serve_all(alloc, &mut session, remote, moment, lines, gate);
-    session.into_log()
+    match do_lines(alloc, &mut session, sink, remote, clock, lines, gate) {
+        Ok(()) => {
+            let log = session.into_log();
+            let wrote = write_ending(alloc, sink, &log);
+            Ran { log, wrote }
+        }
+        Err(why) => Ran {
+            log: session.into_log(),
+            wrote: Err(why),
+        },
+    }
 }

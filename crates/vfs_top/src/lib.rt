@@ -3,6 +3,7 @@
 
 mod epoch;
 mod input;
+mod lines;
 mod phase;
 mod prepare;
 mod print;

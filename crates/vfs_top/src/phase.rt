@@ -1,26 +1,36 @@
-ghost use Rattle.std.specs.Prelude.{◌≡◌, ◌<◌, ◌≤◌, ◌+◌, ℕ, List, [], length};
+ghost use Rattle.std.specs.Prelude.{◌≡◌, ◌<◌, ◌≤◌, ◌+◌, ◌++◌, OnOk, drop, length, map};
 ghost use Rattle.vfs_names.specs.declared.who.Actor.TheVariants.{Session};
-ghost use Rattle.vfs_names.specs.declared.fingerprint.Fingerprint.{Fingerprint};
-ghost use Rattle.memory_item.specs.Known.{Holds};
-ghost use Rattle.one_session.specs.Served.{Fits};
+ghost use Rattle.session_text.specs.Lines.{join_text};
+ghost use Rattle.session_text.specs.declared.shown.Shown.TheVariants.{Replied};
 ghost use Rattle.one_session.specs.Causes.{AreGiven};
 ghost use Rattle.one_session.specs.Whole.{IsUpTo};
-ghost use Rattle.vfs_top.specs.Phase.{AreCalls, AsksCall, IsGoing, IsUntouched, ServesAsked, history_limit, maker_at};
+ghost use Rattle.vfs_top.specs.Event.{maker_at};
+ghost use Rattle.vfs_top.specs.Going.{CanDo, DoesLine, now};
+ghost use Rattle.vfs_top.specs.Transcript.{shown_texts};
+ghost use Rattle.vfs_top.specs.Writing.{Writes};
 
+use crate::write::{Unwritten, write_joined};
 use one_session::OneSession;
 use session_script::{Line, What};
 use std::alloc::Global;
 use vfs_names::{Actor, By, Who};
-use vfs_outside::{Gate, Point, Remote};
+use vfs_outside::{Clock, Gate, Object, Point, Remote, Sink};
 
-/// The maker of what the first session does in the first phase at a moment, in milliseconds.
-pub fn maker_at(moment: u64) -> By
-    ensures { result ≡ maker_at moment }
+/// The phase that is under way: who makes the entries of its calls, and how many calls were made before it.
+#[derive(Clone, Copy, Debug)]
+pub struct Phase {
+    pub by: By,
+    pub before: usize,
+}
+
+/// The maker of what the first session does in a phase at a moment, in milliseconds.
+fn maker_at(phase: u32, moment: u64) -> By
+    ensures { result ≡ maker_at phase moment }
 {
     By {
         who: Who {
             epoch: 0,
-            phase: 1,
+            phase,
             actor: Actor::Session(1),
         },
         pass: 0,
@@ -29,54 +39,80 @@ pub fn maker_at(moment: u64) -> By
     }
 }
 
-/// Serves the calls of all lines, in their order.
-pub fn serve_all<R: Remote, G: Gate>(
-    alloc: Global,
-    session: &mut OneSession<R::Object>,
-    remote: &mut R,
-    moment: u64,
-    lines: &[Line],
-    gate: &G,
-)
-    requires new { (handed : List (Fingerprint × List ℕ)) → Fits 1 (Holds R.Object.tells handed) [] session.old }
-    requires given { session.old.pairs ≡ [] }
-    requires limit { session.old.limit ≡ history_limit }
-    requires none { session.old.files ≡ [] }
-    requires untouched { IsUntouched session.old }
-    requires calls { AreCalls lines.now }
-    requires room { length lines.now ≤ session.old.room }
-    ensures { IsGoing R.Object.tells moment (R.outside remote.old) (R.outside remote.new) lines.now [] session.new }
+/// The first phase, which begins now.
+pub fn first_phase<C: Clock>(clock: &mut C) -> Phase
+    ensures by { result.by ≡ maker_at 1 (C.moment clock.new) }
+    ensures before { result.before ≡ 0 }
+    ensures later { C.moment clock.old ≤ C.moment clock.new }
 {
-    for line in lines {
-        serve_line(alloc, session, remote, maker_at(moment), line, gate);
+    Phase {
+        by: maker_at(1, clock.now()),
+        before: 0,
     }
 }
 
-/// Serves the call of a line.
-fn serve_line<R: Remote, G: Gate>(
+/// Does what a line asks for: makes its call, or ends the phase that is under way and begins the next one. Where the sink
+/// fails none is begun.
+pub fn do_line<K: Sink, R: Remote, C: Clock, G: Gate>(
     alloc: Global,
     session: &mut OneSession<R::Object>,
+    sink: &mut K,
     remote: &mut R,
-    by: By,
+    clock: &mut C,
+    phase: &mut Phase,
     line: &Line,
     gate: &G,
-)
+) -> Result<(), Unwritten>
     requires room { 0 < session.old.room }
-    requires asks { AsksCall line.now.line line.now.what }
-    requires actor { by.who.actor ≡ Session 1 }
-    requires pass { by.pass ≡ 0 }
-    requires later { IsUpTo by session.old.files }
+    requires can { CanDo line.now.line line.now.what }
+    requires actor { phase.old.by.who.actor ≡ Session 1 }
+    requires pass { phase.old.by.pass ≡ 0 }
+    requires later { IsUpTo phase.old.by session.old.files }
     requires given { AreGiven R.Object.tells (R.outside remote.old).handed session.old.pairs }
-    ensures given { AreGiven R.Object.tells (R.outside remote.new).handed session.new.pairs }
-    ensures served { ServesAsked R.Object.tells by line.now.what session.old session.new (R.outside remote.old) (R.outside remote.new) }
-    ensures later { IsUpTo by session.new.files }
-    ensures room { session.old.room ≤ session.new.room + 1 }
+    requires few { phase.old.by.who.phase ≤ 65536 }
+    requires before { phase.old.before ≤ length session.old.records }
+    ensures { DoesLine R.Object.tells line.now.line line.now.what phase.old phase.new
+        (now session.old (R.outside remote.old) (K.written sink.old) (K.faults sink.old) (C.moment clock.old))
+        (now session.new (R.outside remote.new) (K.written sink.new) (K.faults sink.new) (C.moment clock.new))
+        result }
 {
     match &line.what {
         What::Call(call) => {
-            gate.before(Point::TreeLock, by.who);
-            session.serve(alloc, remote, by, call);
+            gate.before(Point::TreeLock, phase.by.who);
+            session.serve(alloc, remote, phase.by, call);
+            Ok(())
         }
+        What::Join => end_phase(alloc, session, sink, clock, phase, line.line),
         _ => unreachable!(),
+    }
+}
+
+/// Writes what the calls of a phase showed and that this line ended it; the next phase begins then.
+fn end_phase<K: Sink, C: Clock, O: Object>(
+    alloc: Global,
+    session: &OneSession<O>,
+    sink: &mut K,
+    clock: &mut C,
+    phase: &mut Phase,
+    line: u32,
+) -> Result<(), Unwritten>
+    requires few { phase.old.by.who.phase ≤ 65536 }
+    requires before { phase.old.before ≤ length session.now.records }
+    ensures text { Writes (K.written sink.old) (K.written sink.new) (K.faults sink.old) (K.faults sink.new)
+        (shown_texts (map Replied (drop phase.old.before session.now.records)) ++ join_text line) result }
+    ensures by { OnOk result (phase.new.by ≡ maker_at (phase.old.by.who.phase + 1) (C.moment clock.new)) }
+    ensures before { OnOk result (phase.new.before ≡ length session.now.records) }
+    ensures later { C.moment clock.old ≤ C.moment clock.new }
+{
+    let records = session.records();
+    match write_joined(alloc, sink, &records[phase.before..], line) {
+        Ok(()) => {
+            *phase = Phase {
+                by: maker_at(phase.by.who.phase + 1, clock.now()),
+                before: records.len(),
+            };
+            Ok(())
+        }
+        Err(why) => Err(why),
     }
 }

@@ -1,5 +1,5 @@
 ghost use Rattle.std.specs.Prelude.{◌≡◌, ◌≤◌, IfErr, IfOk, length, map, string_bytes};
-ghost use Rattle.vfs_top.specs.Phase.{AreCalls};
+ghost use Rattle.vfs_top.specs.Going.{CanDoAll};
 ghost use Rattle.vfs_top.specs.Script.{IsAllowed, IsReady, IsTooLong};
 ghost use Rattle.vfs_top.specs.Stop.{RefusesText, Stops};
 
@@ -14,7 +14,8 @@ use vfs_outside::Source;
 pub fn prepare<S: Source>(alloc: Global, words: &[String], source: &mut S) -> Result<Script, Stop>
     ensures ready { IfOk result (λ script.
         IsReady (map string_bytes words.now) (S.left source.old) (S.left source.new) script) }
-    ensures calls { IfOk result (λ script. AreCalls script) }
+    ensures can { IfOk result (λ script. CanDoAll script) }
+    ensures few { IfOk result (λ script. length script ≤ 65536) }
     ensures stops { IfErr result (λ stop. Stops (map string_bytes words.now)
         (S.left source.old) (S.left source.new) (S.faults source.old) (S.faults source.new) stop) }
     ensures later { S.faults source.old ≤ S.faults source.new }
@@ -41,11 +42,12 @@ fn stop_of(why: Unread) -> Stop
 }
 
 /// The script that a text is.
-#[tactic(auto, using(crate::proofs::Calls::are_calls))]
+#[tactic(auto, using(crate::proofs::Built::can_do_all, crate::proofs::Built::few_lines))]
 fn read_text(alloc: Global, text: &[u8]) -> Result<Script, Stop>
     requires { length text.now ≤ 16777216 }
     ensures allowed { IfOk result (λ script. IsAllowed text.now script) }
-    ensures calls { IfOk result (λ script. AreCalls script) }
+    ensures can { IfOk result (λ script. CanDoAll script) }
+    ensures few { IfOk result (λ script. length script ≤ 65536) }
     ensures refuses { IfErr result (λ stop. RefusesText text.now stop) }
 {
     if check_lines(text).is_err() {

@@ -1,12 +1,14 @@
 ghost use Rattle.std.specs.Prelude.{◌≡◌, ◌++◌, map, IfOk, OnOk};
 ghost use Rattle.session_text.specs.declared.shown.Shown.TheVariants.{Replied};
-ghost use Rattle.session_text.specs.Lines.{end_text};
+ghost use Rattle.session_text.specs.Lines.{end_text, join_text};
 ghost use Rattle.vfs_top.specs.Epoch.{epoch_of, history_of};
 ghost use Rattle.vfs_top.specs.Transcript.{end_block, file_text, file_texts, queue_of, shown_texts};
 
 use item_core::plain;
 use one_session::{EpochLog, FileLog};
-use session_text::{Record, print_end, print_file, print_queue, print_reply, print_tree};
+use session_text::{
+    Record, print_end, print_file, print_join, print_queue, print_reply, print_tree,
+};
 use std::alloc::Global;
 use vfs_names::{Blob, ItemId, NoMemory, QueueRow};
 use vfs_outside::Object;
@@ -22,6 +24,14 @@ pub fn print_replies(out: &mut Blob, records: &[Record]) -> Result<(), NoMemory>
         print_reply(out, done)?;
     }
     Ok(())
+}
+
+/// Appends the replies of a phase's calls, and that this line ended the phase.
+pub fn print_joined(out: &mut Blob, records: &[Record], line: u32) -> Result<(), NoMemory>
+    ensures { OnOk result (out.new ≡ out.old ++ (shown_texts (map Replied records.now) ++ join_text line)) }
+{
+    print_replies(out, records)?;
+    print_join(out, line)
 }
 
 /// Appends the histories of an epoch, the queue, and the last line.

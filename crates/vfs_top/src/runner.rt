@@ -1,9 +1,9 @@
-ghost use Rattle.std.specs.Prelude.{◌≡◌, ◌≢◌, [], map, string_bytes};
+ghost use Rattle.std.specs.Prelude.{◌≡◌, ◌≢◌, ◌≤◌, [], length, map, string_bytes};
 ghost use Rattle.std.specs.Io.KnownBytes.{Appends};
 ghost use Rattle.vfs_outside.specs.Causes.{AppendsFront, Rose};
 ghost use Rattle.vfs_top.specs.Ended.{Breaks, BreaksAttached, Broken, DoesAll, DoesStop, Done, Starved, StarvesAttached, Stopped, told};
 ghost use Rattle.vfs_top.specs.Epoch.{epoch_of};
-ghost use Rattle.vfs_top.specs.Phase.{AreCalls};
+ghost use Rattle.vfs_top.specs.Going.{CanDoAll};
 ghost use Rattle.vfs_top.specs.Stop.{status_of, stop_text};
 ghost use Rattle.vfs_top.specs.Words.{IsRow};
 
@@ -140,7 +140,8 @@ fn attach<K: Sink, R: Remote, C: Clock, G: Gate>(
     gate: &G,
 ) -> Kept<R::Object>
     requires row { IsRow (map string_bytes words.now) }
-    requires calls { AreCalls lines.now }
+    requires can { CanDoAll lines.now }
+    requires few { length lines.now ≤ 65536 }
     ensures all { result.status ≡ 0 → DoesAll R.Object.tells (K.written sink.old) (K.written sink.new)
         (C.moment clock.old) (C.moment clock.new) (R.outside remote.old) (R.outside remote.new)
         lines.now (map epoch_of result.epochs.items) }

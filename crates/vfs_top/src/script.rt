@@ -5,7 +5,8 @@ ghost use Rattle.memory_item.specs.Known.{Holds};
 ghost use Rattle.one_session.specs.Served.{Fits};
 ghost use Rattle.vfs_top.specs.Ended.{DoesAll, DoesNothing, DoesSome};
 ghost use Rattle.vfs_top.specs.Epoch.{epoch_of};
-ghost use Rattle.vfs_top.specs.Phase.{AreCalls, IsUntouched, history_limit};
+ghost use Rattle.vfs_top.specs.Going.{CanDoAll, IsUntouched};
+ghost use Rattle.vfs_top.specs.Phases.{history_limit};
 
 use crate::epoch::{Ran, run_epoch};
 use crate::write::Unwritten;
@@ -35,7 +36,8 @@ pub fn run_script<K: Sink, R: Remote, C: Clock, G: Gate>(
     lines: &[Line],
     gate: &G,
 ) -> Kept<R::Object>
-    requires { AreCalls lines.now }
+    requires can { CanDoAll lines.now }
+    requires few { length lines.now ≤ 65536 }
     ensures all { result.status ≡ 0 → DoesAll R.Object.tells (K.written sink.old) (K.written sink.new)
         (C.moment clock.old) (C.moment clock.new) (R.outside remote.old) (R.outside remote.new)
         lines.now (map epoch_of result.epochs.items) }
@@ -106,7 +108,8 @@ fn run_begun<K: Sink, R: Remote, C: Clock, G: Gate>(
     requires limit { session.limit ≡ history_limit }
     requires files { session.files ≡ [] }
     requires untouched { IsUntouched session }
-    requires calls { AreCalls lines.now }
+    requires can { CanDoAll lines.now }
+    requires few { length lines.now ≤ 65536 }
     requires records { length lines.now ≤ session.room }
     requires none { epochs.items ≡ [] }
     requires room { vec_len epochs < vec_capacity epochs }

@@ -10,6 +10,7 @@ use vfs_outside::{MemorySink, MemorySource, OpenGate, Remote, ScriptClock};
 mod folder;
 mod objects;
 mod odd_remote;
+mod phases;
 mod replaced;
 
 use odd_remote::OddRemote;
@@ -187,6 +188,14 @@ fn calls_are_answered(rt: HostRuntime) -> Result<(), Fail> {
             "2 E6 bad handle\n3 ok [t2 f0:2]\n4 ok [t3 f0:3]\n5 E6 bad handle\n6 E6 bad handle\n7 E6 bad handle\n8 ok [t4 f0:4]\n",
         ),
         (
+            "s1 write 0 0 pat:250:3\ns1 read 0 0 3\ns1 write 0 1 hex:00ff\ns1 write 0 3 fill:7:2\ns1 write 0 9 hex:\ns1 read 0 0 9\n",
+            "2 ok 3 [f0:2]\n3 ok 3 fa060d [f0:3]\n4 ok 2 [f0:4]\n5 ok 2 [f0:5]\n6 ok 0 [f0:6]\n7 ok 5 fa00ff0707 [f0:7]\n",
+        ),
+        (
+            "s1 write 0 1 fill:65:131072\ns1 write 0 0 fill:65:131073\ns1 write 0 0 pat:0:18446744073709551615\ns1 read 0 131070 9\n",
+            "2 ok 131072 [f0:2]\n3 E12 too big\n4 E12 too big\n5 ok 3 414141 [f0:3]\n",
+        ),
+        (
             "s1 open 1 b rw create\ns1 write 1 0 text:q\ns1 read 0 0 1\ns1 read 1 0 1\n",
             "2 ok [t2 f1:1]\n3 ok 1 [f1:2]\n4 ok 0 [f0:2]\n5 ok 1 71 [f1:3]\n",
         ),
@@ -271,7 +280,7 @@ fn the_first_bad_line_is_told(rt: HostRuntime) -> Result<(), Fail> {
         (b"s1  close 0", "1: words"),
         (b"s17 close 0", "1: session"),
         (b"tick", "1: unbuilt"),
-        (b"s1 write 0 0 hex:00", "1: unbuilt"),
+        (b"join\nrestart\n", "2: unbuilt"),
     ];
     for (script, told) in table {
         let expected = format!(in rt.alloc(); "script line {told}\nend 3\n")?;

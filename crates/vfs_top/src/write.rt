@@ -1,5 +1,5 @@
 ghost use Rattle.std.specs.Prelude.{◌++◌, map};
-ghost use Rattle.session_text.specs.Lines.{end_text, start_text};
+ghost use Rattle.session_text.specs.Lines.{end_text, join_text, start_text};
 ghost use Rattle.session_text.specs.declared.shown.Shown.TheVariants.{Replied};
 ghost use Rattle.vfs_top.specs.Epoch.{epoch_of};
 ghost use Rattle.vfs_outside.specs.Causes.{AppendsFront};
@@ -7,10 +7,10 @@ ghost use Rattle.vfs_top.specs.Stop.{no_memory_text, stop_text};
 ghost use Rattle.vfs_top.specs.Transcript.{end_block, shown_texts};
 ghost use Rattle.vfs_top.specs.Writing.{Writes};
 
-use crate::print::{print_ending, print_replies};
+use crate::print::{print_ending, print_joined, print_replies};
 use crate::stop::{Stop, print_stop};
 use one_session::EpochLog;
-use session_text::print_start;
+use session_text::{Record, print_start};
 use std::alloc::Global;
 use vfs_names::{Blob, NoMemory};
 use vfs_outside::{Object, Sink};
@@ -47,39 +47,44 @@ pub fn write_start<K: Sink>(alloc: Global, sink: &mut K) -> Result<(), Unwritten
     }
 }
 
-/// Writes the replies of an epoch's calls, and then its end.
-pub fn write_epoch<K: Sink, O: Object>(
-    alloc: Global,
-    sink: &mut K,
-    log: &EpochLog<O>,
-) -> Result<(), Unwritten>
-    ensures { Writes (K.written sink.old) (K.written sink.new) (K.faults sink.old) (K.faults sink.new)
-        (shown_texts (map Replied log.now.records.items) ++ (end_block (epoch_of log.now) ++ end_text 0)) result }
-{
-    match write_replies(alloc, sink, log) {
-        Ok(()) => write_ending(alloc, sink, log),
-        Err(why) => Err(why),
-    }
-}
-
+/// Writes the replies of a phase's calls.
 #[tactic(auto, using(crate::proofs::Texts::none_written))]
-fn write_replies<K: Sink, O: Object>(
+pub fn write_replies<K: Sink>(
     alloc: Global,
     sink: &mut K,
-    log: &EpochLog<O>,
+    records: &[Record],
 ) -> Result<(), Unwritten>
     ensures { Writes (K.written sink.old) (K.written sink.new) (K.faults sink.old) (K.faults sink.new)
-        (shown_texts (map Replied log.now.records.items)) result }
+        (shown_texts (map Replied records.now)) result }
 {
     let mut text = Blob::new(alloc);
-    match print_replies(&mut text, &log.records) {
+    match print_replies(&mut text, records) {
         Ok(()) => write(sink, &text),
         Err(NoMemory) => Err(Unwritten::NoMemory),
     }
 }
 
+/// Writes the replies of a phase's calls, and that this line ended the phase.
 #[tactic(auto, using(crate::proofs::Texts::none_written))]
-fn write_ending<K: Sink, O: Object>(
+pub fn write_joined<K: Sink>(
+    alloc: Global,
+    sink: &mut K,
+    records: &[Record],
+    line: u32,
+) -> Result<(), Unwritten>
+    ensures { Writes (K.written sink.old) (K.written sink.new) (K.faults sink.old) (K.faults sink.new)
+        (shown_texts (map Replied records.now) ++ join_text line) result }
+{
+    let mut text = Blob::new(alloc);
+    match print_joined(&mut text, records, line) {
+        Ok(()) => write(sink, &text),
+        Err(NoMemory) => Err(Unwritten::NoMemory),
+    }
+}
+
+/// Writes the histories of an epoch, the queue, and the last line.
+#[tactic(auto, using(crate::proofs::Texts::none_written))]
+pub fn write_ending<K: Sink, O: Object>(
     alloc: Global,
     sink: &mut K,
     log: &EpochLog<O>,

@@ -1,7 +1,7 @@
 use Rattle.std.proofs.Common.{[], subst, sym}
 use Rattle.memory_item.specs.Known.{Holds}
 use Rattle.one_session.specs.Served.{Fits}
-use Rattle.vfs_top.specs.Phase.{IsUntouched}
+use Rattle.vfs_top.specs.Going.{IsUntouched}
 use Rattle.vfs_top.proofs.Begun.{fits_still, untouched_still}
 use Rattle.vfs_top.proofs.script.begin.Goals as goal
 

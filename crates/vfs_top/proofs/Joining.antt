@@ -1,0 +1,218 @@
+-- How an epoch goes on from line to line, and where it ends.
+use Rattle.std.proofs.Common.{◌≡◌, ◌∙◌, ℕ, ◌+◌, ◌<◌, ◌≤◌, ◌++◌, Option, List, [], ◌∷◌, Result, Ok, Err, OnOk, length, reverse, drop, get_or, suc, add-one, ap, append_assoc, arith, drop-cons, length-append, refl, subst, sym}
+use Rattle.std.proofs.Math.ListN.{drop_of_length-le}
+use Rattle.std.specs.Io.KnownBytes.{Appends}
+use Rattle.vfs_names.specs.declared.who.By.{By}
+use Rattle.vfs_outside.proofs.Told.{appends_twice}
+use Rattle.vfs_outside.specs.Causes.{AppendsFront}
+use Rattle.item_core.specs.Legal.{IsNoLater}
+use Rattle.item_core.specs.declared.entry.Entry.{Entry}
+use Rattle.session_script.specs.declared.call.CallLine.{CallLine}
+use Rattle.session_script.specs.declared.call.Line.{Line}
+use Rattle.session_script.specs.declared.call.What.{What}
+use Rattle.session_script.specs.declared.call.What.TheVariants as what
+use Rattle.session_text.specs.Lines.{join_text}
+use Rattle.one_session.specs.State.{History, entries_in}
+use Rattle.one_session.specs.Whole.{IsUpTo}
+use Rattle.vfs_top.proofs.Going.{call_made, lines_more}
+use Rattle.vfs_top.proofs.Texts.{some_written, writes_twice}
+use Rattle.vfs_top.proofs.Told.{count_records, last_told, pending, replies, text_more, told_and_pending}
+use Rattle.vfs_top.specs.Event.{Event, Called, Joined, before_last, calls_of, earlier, maker_at}
+use Rattle.vfs_top.specs.Going.{CanDo, CanDoAll, DoesLine, EndsPhase, HasGone, IsGoing, IsTold, IsUnderWay, MakesCall, Now, now}
+use Rattle.vfs_top.specs.Transcript.{texts_of}
+use Rattle.vfs_top.specs.Writing.{AppendsPast, Writes}
+use Rattle.vfs_top.specs.declared.phase.Phase.{Phase}
+use Rattle.vfs_top.specs.declared.write.Unwritten.{Unwritten}
+
+no_later_still : (past : List Entry) (x y : By) → x.who.phase ≤ y.who.phase → x.now ≤ y.now → IsNoLater past x → IsNoLater past y
+no_later_still [] x y p m h = tt
+no_later_still (e ∷ older) x y p m h = (omega (arith, h.0, p), omega (arith, h.1, m))
+
+-- what is of no later phase or moment than the last phase isn't than the next
+up_to_next : (files : List History) (x y : By) → x.who.phase ≤ y.who.phase → x.now ≤ y.now → IsUpTo x files → IsUpTo y files
+up_to_next files x y p m h = λ item. no_later_still (reverse (entries_in files item)) x y p m (h item)
+
+-- a phase was ended, and the next one began or not
+joined : (tells : Type 0) (start a : Now) (lines left : List Line) (n moment : ℕ) (by next : By) (written : Option (List ℕ)) (faults : ℕ) (events : List Event)
+    → IsGoing tells start lines (record { line = n; what = what.Join } ∷ left) by events a → next ≡ maker_at (by.who.phase + 1) moment → by.now ≤ moment
+    → IsGoing tells start lines left next (Joined n moment ∷ events) (now a.session a.remote written faults moment)
+joined tells start a lines left n moment by next written faults events p maker sooner = record {
+  asked = lines_more (Joined n moment) events (record { line = n; what = what.Join }) left lines refl p.asked;
+  first = p.first;
+  no_sooner = p.no_sooner;
+  timely = (omega (arith, sooner, ap (λ (b : By). b.now) p.maker), p.timely);
+  is_now = refl;
+  maker = maker ∙ ap (λ phase. maker_at (phase + 1) moment) (ap (λ (b : By). b.who.phase) p.maker);
+  later = up_to_next a.session.files by next (omega (arith, ap (λ (b : By). b.who.phase) maker)) (omega (arith, sooner, ap (λ (b : By). b.now) maker)) p.later;
+  fits = p.fits;
+  given = p.given;
+  limit = p.limit;
+  causes = p.causes;
+  steps = p.steps;
+  remote_faults = p.remote_faults;
+  changes = p.changes;
+  more = p.more;
+  handed = p.handed;
+  can = p.can.1;
+  room = omega (arith, p.room);
+  few = omega (arith, p.few);
+}
+
+-- the replies of the phase that is under way are those of the records behind the others
+replies_left : (tells : Type 0) (start a : Now) (lines left : List Line) (p : Phase) (events : List Event) → IsGoing tells start lines left p.by events a → IsTold start p events a → replies (drop p.before a.session.records) ≡ pending events
+replies_left tells start a lines left p events g t = ap (λ n. replies (drop n a.session.records)) t.before ∙ ap (λ l. replies (drop (length (calls_of (earlier events))) l)) g.fits.records
+
+-- what the earlier phases showed was written, told as the writing of a text
+told_writes : (start a : Now) (p : Phase) (events : List Event) → IsTold start p events a → Writes start.written a.written start.faults a.faults (texts_of (earlier events)) (Ok tt)
+told_writes start a p events t = record { all = t.text; front = tt; rose = λ e. cc; later = t.faults }
+
+past_more : (w0 w1 w2 : Option (List ℕ)) (a b : List ℕ) → Appends w0 w1 a → AppendsFront w1 w2 b → AppendsPast w0 w2 a
+past_more w0 w1 w2 a b p q = (q.0, appends_twice w0 w1 w2 a q.0 p q.3)
+
+text_joined : (events : List Event) (n moment : ℕ) (shown : List ℕ) → shown ≡ pending events → texts_of (earlier events) ++ (shown ++ join_text n) ≡ texts_of (Joined n moment ∷ events)
+text_joined events n moment shown is =
+    ap (λ l. texts_of (earlier events) ++ (l ++ join_text n)) is ∙ sym (append_assoc (texts_of (earlier events)) (pending events) (join_text n))
+    ∙ ap (λ l. l ++ join_text n) (sym (told_and_pending events)) ∙ sym (text_more (Joined n moment) events)
+
+-- a phase was ended, what it showed was written, and the next phase begins
+phase_ended : (tells : Type 0) (start a : Now) (lines left : List Line) (n : ℕ) (p q : Phase) (written : Option (List ℕ)) (faults moment : ℕ) (events : List Event)
+    → IsGoing tells start lines (record { line = n; what = what.Join } ∷ left) p.by events a → IsTold start p events a → EndsPhase n p q a (now a.session a.remote written faults moment) (Ok tt)
+    → IsUnderWay tells start lines left q (now a.session a.remote written faults moment)
+phase_ended tells start a lines left n p q written faults moment events g t x = record {
+  events = Joined n moment ∷ events;
+  going = joined tells start a lines left n moment p.by q.by written faults events g x.by (omega (arith, g.is_now, x.moment, ap (λ (b : By). b.now) g.maker));
+  told = record {
+    text = subst (Appends start.written written) (text_joined events n moment (replies (drop p.before a.session.records)) (replies_left tells start a lines (record { line = n; what = what.Join } ∷ left) p events g t))
+        (appends_twice start.written a.written written (texts_of (earlier events)) (replies (drop p.before a.session.records) ++ join_text n) t.text x.text.all);
+    faults = omega (arith, t.faults, x.text.later);
+    before = x.before ∙ ap length g.fits.records ∙ count_records (calls_of events);
+    inside = omega (arith, x.before);
+  };
+}
+
+-- a phase was ended, and not all was written that it showed
+phase_broken : (tells : Type 0) (start a : Now) (lines left : List Line) (n : ℕ) (p q : Phase) (written : Option (List ℕ)) (faults moment : ℕ) (why : Unwritten) (events : List Event)
+    → IsGoing tells start lines (record { line = n; what = what.Join } ∷ left) p.by events a → IsTold start p events a → EndsPhase n p q a (now a.session a.remote written faults moment) (Err why)
+    → HasGone tells lines start (now a.session a.remote written faults moment) (Err why)
+phase_broken tells start a lines left n p q written faults moment why events g t x = record {
+  by = maker_at (p.by.who.phase + 1) moment;
+  left = left;
+  events = Joined n moment ∷ events;
+  going = joined tells start a lines left n moment p.by (maker_at (p.by.who.phase + 1) moment) written faults events g refl (omega (arith, g.is_now, x.moment, ap (λ (b : By). b.now) g.maker));
+  all = tt;
+  text = subst (λ text. Writes start.written written start.faults faults text (Err why)) (text_joined events n moment (replies (drop p.before a.session.records)) (replies_left tells start a lines (record { line = n; what = what.Join } ∷ left) p events g t))
+      (writes_twice start.written a.written written start.faults a.faults faults (texts_of (earlier events)) (replies (drop p.before a.session.records) ++ join_text n) (Err why) (told_writes start a p events t) x.text);
+  most = past_more start.written a.written written (texts_of (earlier events)) (replies (drop p.before a.session.records) ++ join_text n) t.text x.text.front;
+}
+
+on_ok : {P : Type 0} (r : Result (Unit {0}) Unwritten) → P → OnOk r P
+on_ok (Ok x) p = p
+on_ok (Err why) p = tt
+
+-- for each state with the session and the remote of another
+module _ (P : Now → Type 0) (a b : Now) (session : b.session ≡ a.session) (remote : b.remote ≡ a.remote) where
+  along : P (now a.session a.remote b.written b.faults b.moment) → P b
+  along p = subst (λ s. P (now s b.remote b.written b.faults b.moment)) (sym session) (subst (λ r. P (now a.session r b.written b.faults b.moment)) (sym remote) p)
+
+-- a call was made
+call_goes : (tells : Type 0) (start a b : Now) (lines left : List Line) (n : ℕ) (c : CallLine) (p : Phase)
+    → IsUnderWay tells start lines (record { line = n; what = what.Call c } ∷ left) p a → MakesCall tells p.by c a b → IsUnderWay tells start lines left p b
+call_goes tells start a b lines left n c p u x = record {
+  events = Called (record { by = p.by; line = c; done = x.done }) ∷ u.events;
+  going = call_made tells start a b lines left n c p.by u.events u.going x;
+  told = record {
+    text = subst (λ w. Appends start.written w (texts_of (earlier u.events))) (sym x.written) u.told.text;
+    faults = omega (arith, u.told.faults, x.faults);
+    before = u.told.before;
+    inside = omega (arith, u.told.inside, ap length x.serves.records, length-append a.session.records (x.done ∷ []));
+  };
+}
+
+next_what : (tells : Type 0) (start a b : Now) (lines left : List Line) (n : ℕ) (asked : What) (p q : Phase)
+    → IsUnderWay tells start lines (record { line = n; what = asked } ∷ left) p a → DoesLine tells n asked p q a b (Ok tt) → IsUnderWay tells start lines left q b
+next_what tells start a b lines left n (what.Call c) p q u x = subst (λ q. IsUnderWay tells start lines left q b) (sym x.1) (call_goes tells start a b lines left n c p u x.0)
+next_what tells start a b lines left n (what.Advance ms) p q u x = absurd x
+next_what tells start a b lines left n what.Tick p q u x = absurd x
+next_what tells start a b lines left n what.Clean p q u x = absurd x
+next_what tells start a b lines left n what.Poll p q u x = absurd x
+next_what tells start a b lines left n what.Join p q u x =
+    along (λ b. EndsPhase n p q a b (Ok tt) → IsUnderWay tells start lines left q b) a b x.session x.remote
+    (λ y. phase_ended tells start a lines left n p q b.written b.faults b.moment u.events u.going u.told y) x
+next_what tells start a b lines left n what.Restart p q u x = absurd x
+
+broken_what : (tells : Type 0) (start a b : Now) (lines left : List Line) (n : ℕ) (asked : What) (p q : Phase) (why : Unwritten)
+    → IsUnderWay tells start lines (record { line = n; what = asked } ∷ left) p a → DoesLine tells n asked p q a b (Err why) → HasGone tells lines start b (Err why)
+broken_what tells start a b lines left n (what.Call c) p q why u x = cc (x.2)
+broken_what tells start a b lines left n (what.Advance ms) p q why u x = absurd x
+broken_what tells start a b lines left n what.Tick p q why u x = absurd x
+broken_what tells start a b lines left n what.Clean p q why u x = absurd x
+broken_what tells start a b lines left n what.Poll p q why u x = absurd x
+broken_what tells start a b lines left n what.Join p q why u x =
+    along (λ b. EndsPhase n p q a b (Err why) → HasGone tells lines start b (Err why)) a b x.session x.remote
+    (λ y. phase_broken tells start a lines left n p q b.written b.faults b.moment why u.events u.going u.told y) x
+broken_what tells start a b lines left n what.Restart p q why u x = absurd x
+
+-- the line at an index was done, or it was a join and not all was written that its phase showed
+module _ (tells : Type 0) (start a b : Now) (lines : List Line) (i : ℕ) (line : Line) (p q : Phase) (inside : i < length lines) (is : line ≡ get_or lines i line) where
+  at_index : drop i lines ≡ line ∷ drop (i + 1) lines
+  at_index = rw (add-one, drop-cons lines i line) (ap (λ x. x ∷ drop (suc i) lines) (sym is))
+
+  pub can_at : CanDoAll (drop i lines) → CanDo line.line line.what
+  can_at h = (subst CanDoAll at_index h).0
+
+  pub next_at : IsUnderWay tells start lines (drop i lines) p a → DoesLine tells line.line line.what p q a b (Ok tt) → IsUnderWay tells start lines (drop (i + 1) lines) q b
+  next_at u x = next_what tells start a b lines (drop (i + 1) lines) line.line line.what p q (subst (λ left. IsUnderWay tells start lines left p a) at_index u) x
+
+  pub broken_at : (why : Unwritten) → IsUnderWay tells start lines (drop i lines) p a → DoesLine tells line.line line.what p q a b (Err why) → HasGone tells lines start b (Err why)
+  broken_at why u x = broken_what tells start a b lines (drop (i + 1) lines) line.line line.what p q why (subst (λ left. IsUnderWay tells start lines left p a) at_index u) x
+
+-- whatever was written
+going_still : (tells : Type 0) (start a : Now) (lines left : List Line) (by : By) (events : List Event) (written : Option (List ℕ)) (faults : ℕ)
+    → IsGoing tells start lines left by events a → IsGoing tells start lines left by events (now a.session a.remote written faults a.moment)
+going_still tells start a lines left by events written faults p = record {
+  asked = p.asked;
+  first = p.first;
+  no_sooner = p.no_sooner;
+  timely = p.timely;
+  is_now = p.is_now;
+  maker = p.maker;
+  later = p.later;
+  fits = p.fits;
+  given = p.given;
+  limit = p.limit;
+  causes = p.causes;
+  steps = p.steps;
+  remote_faults = p.remote_faults;
+  changes = p.changes;
+  more = p.more;
+  handed = p.handed;
+  can = p.can;
+  room = p.room;
+  few = p.few;
+}
+
+shorter_past : (w0 w1 : Option (List ℕ)) (text front more : List ℕ) → text ≡ front ++ more → AppendsPast w0 w1 text → AppendsPast w0 w1 front
+shorter_past w0 w1 text front more e p = (more ++ p.0, subst (Appends w0 w1) (ap (λ l. l ++ p.0) e ∙ append_assoc front more p.0) p.1)
+
+all_gone : (tells : Type 0) (start a : Now) (lines : List Line) (p : Phase) (written : Option (List ℕ)) (faults : ℕ) (r : Result (Unit {0}) Unwritten)
+    → IsUnderWay tells start lines [] p a → Writes a.written written a.faults faults (replies (drop p.before a.session.records)) r → HasGone tells lines start (now a.session a.remote written faults a.moment) r
+all_gone tells start a lines p written faults r u x = record {
+  by = p.by;
+  left = [];
+  events = u.events;
+  going = going_still tells start a lines [] p.by u.events written faults u.going;
+  all = on_ok r refl;
+  text = subst (λ text. Writes start.written written start.faults faults text r)
+      (ap (λ l. texts_of (earlier u.events) ++ l) (replies_left tells start a lines [] p u.events u.going u.told) ∙ sym (told_and_pending u.events))
+      (writes_twice start.written a.written written start.faults a.faults faults (texts_of (earlier u.events)) (replies (drop p.before a.session.records)) r (told_writes start a p u.events u.told) x);
+  most = let l = last_told u.events in
+      shorter_past start.written written (texts_of (earlier u.events)) (texts_of (before_last u.events)) l.0 l.1
+      (past_more start.written a.written written (texts_of (earlier u.events)) (replies (drop p.before a.session.records)) u.told.text
+      (some_written a.written written (replies (drop p.before a.session.records)) r x.all x.front));
+}
+
+-- all lines were done, and then the replies of the last phase were written or not
+pub gone_at : (tells : Type 0) (start a : Now) (lines : List Line) (i : ℕ) (p : Phase) (written : Option (List ℕ)) (faults : ℕ) (r : Result (Unit {0}) Unwritten) → length lines ≤ i
+    → IsUnderWay tells start lines (drop i lines) p a → Writes a.written written a.faults faults (replies (drop p.before a.session.records)) r → HasGone tells lines start (now a.session a.remote written faults a.moment) r
+gone_at tells start a lines i p written faults r past u x =
+    all_gone tells start a lines p written faults r (subst (λ left. IsUnderWay tells start lines left p a) (drop_of_length-le lines past) u) x
