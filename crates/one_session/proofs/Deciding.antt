@@ -1,5 +1,5 @@
 -- What an open did, and why, from what it planned.
-use Rattle.std.proofs.Common.{◌≡◌, ◌⊎◌, ◌<◌, ◌≤◌, ℕ, ◌+◌, ◌++◌, ◌∙◌, ◌||◌, Bool, nat_lt, ap, sym, refl, subst, inl, inr, arith, true, false, Option, None, Some, List, [], ◌∷◌, length, set, reverse, append-nil, append_assoc, length-append}
+use Rattle.std.proofs.Common.{◌≡◌, ◌≢◌, ◌⊎◌, ◌<◌, ◌≤◌, ℕ, ◌+◌, ◌++◌, ◌∙◌, ◌||◌, Bool, nat_lt, ap, sym, refl, subst, inl, inr, arith, true, false, Option, None, Some, List, [], ◌∷◌, length, set, reverse, append-nil, append_assoc, length-append}
 use Rattle.std.specs.Prelude.{IsSomeAnd}
 use Rattle.vfs_names.specs.declared.calls.How.{How}
 use Rattle.vfs_names.specs.declared.fingerprint.Fingerprint.{Fingerprint}
@@ -20,7 +20,7 @@ use Rattle.session_text.specs.declared.reply.Record.{Record}
 use Rattle.session_text.specs.declared.reply.Reply.TheVariants as reply
 use Rattle.item_core.specs.History.{held_by, is_dirty, opens_of}
 use Rattle.shown_rows.specs.declared.Shown.{Shown}
-use Rattle.one_session.specs.Calls.{IsItemAt, ListsOnce, OpenAdds, OpensPath, ShowsObject, WasHeld, in_tree, refused_open}
+use Rattle.one_session.specs.Calls.{IsItemAt, ListsOnce, MayBegin, OpenAdds, OpensPath, ShowsObject, WasHeld, in_tree, refused_open}
 use Rattle.one_session.specs.Causes.{AreGiven, HasOpenCause, HasRemoteCause, IsUnshown, ends_gone}
 use Rattle.one_session.specs.Did.{Did}
 use Rattle.one_session.specs.Looking.{MeetsObject, Refuses, Starts}
@@ -33,6 +33,7 @@ use Rattle.one_session.specs.Tree.{is_held_at, is_held_in, is_listed, item_of, s
 use Rattle.one_session.specs.declared.handle.Handle.{Handle}
 use Rattle.one_session.specs.declared.plan.Met.{Met}
 use Rattle.one_session.specs.declared.start.Start.{Start}
+use Rattle.one_session.specs.declared.start.Start.TheVariants.{Kept, Create, Bind, Adopt}
 use Rattle.one_session.proofs.Doing.{IsTold, listed_own, open_done, told_done}
 use Rattle.one_session.proofs.Going.{entries_of-append}
 use Rattle.one_session.proofs.Keeping.{Goes, held_is as held_file, own_in_tree, sound_plain}
@@ -163,7 +164,7 @@ module _ (by : By) (path : List ℕ) (how : How) (done : Record) (met : Met) (pa
   refuse_adds refusals.NotFound r e = (inr (inl (e, inr (inl (sym m.create ∙ r.2, record { lists = lists; once = once; is = refl; found = record { free = sym m.used ∙ r.0; nothing = sym m.there ∙ r.1 } })))), inl refl)
   refuse_adds refusals.IsDir r e = (inr (inr (inr (inl (e, record { lists = lists; once = once; is = refl; found = record { free = sym m.used ∙ r.0; there = sym m.there ∙ r.1 } })))), inr (inl refl))
   refuse_adds refusals.RemoteFault r e = (inr (inr (inl (e, inr (record { lists = lists; once = once; is = refl; found = meets_object met (es ++ lists) path how past m r.0 })))), inr (inr (inl refl)))
-  refuse_adds refusals.TooBig r e = (inr (inr (inr (inr (inl (e, record { lists = lists; once = once; is = refl; found = meets_object met (es ++ lists) path how past m r.0 }))))), inr (inr (inr refl)))
+  refuse_adds refusals.TooBig r e = (inr (inr (inr (inr (inl (e, record { lists = lists; once = once; is = refl; found = meets_object met (es ++ lists) path how past m r.0 }))))), inr (inr (inr (inl refl))))
   refuse_adds refusals.Exists r e = absurd r
   refuse_adds refusals.NotDir r e = absurd r
   refuse_adds refusals.NotEmpty r e = absurd r
@@ -223,6 +224,37 @@ unlisted_did holds by done s t h path how mid why own which is answer at_tree at
       adds why (inl e) x = inr (inl (x ∙ ap reply.Refused e, inl (unlisted, ap (λ w. refused_open by path w ∷ []) e)))
       adds why (inr e) x = inr (inr (inl (x ∙ ap reply.Refused e, inl (unlisted, ap (λ w. refused_open by path w ∷ []) e))))
 
+-- the disk refused to begin a file, once the root was listed
+pub unopened_did : (holds : Known → Type 0) (by : By) (done : Record) (s t : State) (h : ℕ) (path : List ℕ) (how : How) (lists seen : List TreeEntry) → by.who.actor ≡ Session 1 → seen ≡ s.tree ++ lists
+    → ListsOnce by s.tree lists → MayBegin path how seen
+    → done.reply ≡ reply.Refused refusals.DiskFault → done.tree ≡ Some (length seen) → done.file ≡ None → file_at s.table h ≡ None
+    → t.tree ≡ seen ++ refused_open by path refusals.DiskFault ∷ [] → t.files ≡ s.files → t.table ≡ s.table → t.limit ≡ s.limit
+    → Did 1 holds by (call.Open h path how) done s t
+unopened_did holds by done s t h path how lists seen own is once may answer at_tree at_file closed grew files table limit =
+    told_done holds by done s t h (length seen) path how lists refusals.DiskFault own (inr (inr (inr (inr refl)))) answer at_tree at_file closed (listed_own by s.tree lists own once)
+    (inr (inr (inr (inr (inr (inl (answer, record { lists = lists; once = once; is = refl; found = subst (MayBegin path how) is may })))))))
+    (ap length is ∙ length-append s.tree lists)
+    (grew ∙ ap (λ l. l ++ refused_open by path refusals.DiskFault ∷ []) is ∙ append_assoc s.tree lists (refused_open by path refusals.DiskFault ∷ [])) files table limit
+
+-- a file that isn't opened as it is begins of what is there
+pub may_begin : {O S : Type 0} (print_of : O → Fingerprint) (met : Met) (seen : List TreeEntry) (path : List ℕ) (how : How) (past : List Entry) (start : Start O S) → IsMet met seen path how past → Starts print_of met start → front_of print_of start ≢ [] → MayBegin path how seen
+may_begin print_of met seen path how past Kept m starts some = absurd (some refl)
+may_begin print_of met seen path how past Create m starts some = inr (record { free = sym m.used ∙ starts.0; nothing = sym m.there ∙ starts.1 }, sym m.create ∙ starts.2)
+may_begin print_of met seen path how past (Bind object) m starts some = inl (meets_object met seen path how past m starts.0)
+may_begin print_of met seen path how past (Adopt object) m starts some = inl (meets_object met seen path how past m starts.0)
+
+-- a refusal for the disk has no cause in the remote
+pub disk_cause : (path : List ℕ) (done : Record) (entries : List TreeEntry) (old new : Outside) → done.reply ≡ reply.Refused refusals.DiskFault → HasOpenCause path done entries old new
+disk_cause path done entries old new e = record { fault = λ x. absurd (a (sym e ∙ x)); missing = λ x. absurd (b (sym e ∙ x)); big = λ x. absurd (c (sym e ∙ x)) } where
+  a : reply.Refused refusals.DiskFault ≡ reply.Refused refusals.RemoteFault → ⊥
+  a x = cc
+
+  b : reply.Refused refusals.DiskFault ≡ reply.Refused refusals.NotFound → ⊥
+  b x = cc
+
+  c : reply.Refused refusals.DiskFault ≡ reply.Refused refusals.TooBig → ⊥
+  c x = cc
+
 -- what was met at a path that has a file
 pub met_again : (by : By) (es lists seen : List TreeEntry) (table : List (Option Handle)) (path : List ℕ) (how : How) (item : ℕ) (past : List Entry) (used bound : Bool) (held : Option Fingerprint) (there : Option Shown) → seen ≡ es ++ lists → ListsOnce by es lists → item_of es path ≡ Some item
     → IsTied es table item past → used ≡ (is_dirty past || nat_lt 0 (opens_of past)) → held ≡ held_by past → there ≡ shown seen path
@@ -247,16 +279,16 @@ met_new by es lists seen path how there is once at t = record {
 }
 
 -- the file of a path was begun so and opened
-module _ {O S : Type 0} (print_of : O → Fingerprint) (holds : Known → Type 0) (by : By) (done : Record) (s t : State) (h item m n : ℕ) (path own : List ℕ) (how : How) (lists seen : List TreeEntry) (met : Met) (start : Start O S) (print : Option Fingerprint)
+module _ {O S : Type 0} (print_of : O → Fingerprint) (holds : Known → Type 0) (by : By) (done : Record) (s t : State) (h item m n made : ℕ) (path own : List ℕ) (how : How) (lists seen : List TreeEntry) (met : Met) (start : Start O S) (print : Option Fingerprint)
     (mine : by.who.actor ≡ Session 1) (answer : done.reply ≡ reply.Done) (at_tree : done.tree ≡ Some m) (at_file : done.file ≡ Some (record { 0 = item }, n)) (closed : file_at s.table h ≡ None) (small : h < length s.table)
     (is : seen ≡ s.tree ++ lists) (once : ListsOnce by s.tree lists) (same : own ≡ path) (item_at : IsItemAt seen path item)
-    (g : Goes s.files t.files item (opening by how.access (front_of print_of start))) (held : WasHeld t.files item n print) (ends : m ≡ length seen) (end : n ≡ length (entries_in s.files item) + length (front_of print_of start))
+    (g : Goes s.files t.files item (opening by how.access made (front_of print_of start))) (held : WasHeld t.files item n print) (ends : m ≡ length seen) (end : n ≡ length (entries_in s.files item) + length (front_of print_of start))
     (m' : IsMet met seen path how (reverse (entries_in s.files item))) (starts : Starts print_of met start)
     (grew : t.tree ≡ seen ++ in_tree by (opened_kind (is_create start) own item print) ∷ []) (table : t.table ≡ set s.table h (Some (record { item = item; access = how.access }))) (limit : t.limit ≡ s.limit) where
   pub begun_did : Did 1 holds by (call.Open h path how) done s t
-  begun_did = open_done holds by done s t h item m n path how lists (is_create start) print (front_of print_of start) mine answer at_tree at_file closed small once
-      (subst (OpensPath how path item print (opened_kind (is_create start) path item print)) is (opens_path print_of met seen path how (reverse (entries_in s.files item)) m' item print by start item_at
-      (held_is t.files item (entries_in s.files item) by how.access (front_of print_of start) n print g.own end held) starts))
+  begun_did = open_done holds by done s t h item m n made path how lists (is_create start) print (front_of print_of start) mine answer at_tree at_file closed small once
+      (subst (OpensPath how path item print (opened_kind (is_create start) path item print)) is (opens_path print_of met seen path how (reverse (entries_in s.files item)) m' item print by made start item_at
+      (held_is t.files item (entries_in s.files item) by how.access made (front_of print_of start) n print g.own end held) starts))
       held g (start_begins print_of start) (ends ∙ ap length is) end
       (grew ∙ ap (λ l. l ++ in_tree by (opened_kind (is_create start) own item print) ∷ []) is ∙ ap (λ p. (s.tree ++ lists) ++ in_tree by (opened_kind (is_create start) p item print) ∷ []) same) table limit
 

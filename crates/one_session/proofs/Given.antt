@@ -1,13 +1,12 @@
 -- What the files were given is among what the store handed out.
-use Rattle.std.proofs.Common.{◌≡◌, ◌<◌, ℕ, zero, suc, ◌++◌, ◌∙◌, ap, sym, refl, subst, arith, List, [], ◌∷◌, length, map, set}
+use Rattle.std.proofs.Common.{◌≡◌, ◌<◌, ℕ, zero, suc, ◌++◌, ◌∙◌, ap, sym, subst, arith, List, [], ◌∷◌, length, set}
 use Rattle.std.specs.List.{AllByRecursion}
 use Rattle.std.proofs.lemmas.List.{length-map}
 use Rattle.vfs_names.specs.declared.fingerprint.Fingerprint.{Fingerprint}
 use Rattle.item_core.specs.Content.{Known}
-use Rattle.memory_item.specs.Item.{Item}
-use Rattle.memory_item.specs.Known.{Holds}
+use Rattle.item_image.specs.Premise.{Holds}
+use Rattle.sparse_item.specs.Item.{Item}
 use Rattle.one_session.specs.Causes.{AreGiven}
-use Rattle.one_session.specs.State.{History}
 use Rattle.one_session.specs.Views.{given_all, histories, item_in, stored}
 use Rattle.one_session.proofs.Serving.{holds_part}
 

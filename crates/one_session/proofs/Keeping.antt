@@ -1,5 +1,5 @@
 -- The parts of a session's state fit together after one call more.
-use Rattle.std.proofs.Common.{◌≡◌, ◌≢◌, ◌⊎◌, ◌<◌, ◌≤◌, ℕ, zero, suc, ◌+◌, ◌-◌, ◌++◌, ◌∙◌, ap, sym, refl, subst, inl, inr, arith, Bool, true, false, Option, None, Some, List, [], ◌∷◌, length, map, reverse, set, get_or, cond, eqb, max, nat_lt, ◌||◌, length-append, append_assoc, append-nil, length-set}
+use Rattle.std.proofs.Common.{◌≡◌, ◌≢◌, ◌⊎◌, ◌<◌, ◌≤◌, ℕ, zero, suc, ◌+◌, ◌-◌, ◌++◌, ◌∙◌, ap, sym, refl, subst, inl, inr, arith, Bool, true, false, Option, None, Some, List, [], ◌∷◌, length, map, reverse, set, cond, eqb, max, nat_lt, ◌||◌, length-append, append_assoc, append-nil, length-set}
 use Rattle.std.specs.List.{AllByRecursion, count_by, position}
 use Rattle.std.proofs.Math.Bool.{or-false, or-true}
 use Rattle.std.proofs.Math.Nat.{add-zero}
@@ -19,8 +19,7 @@ use Rattle.item_core.specs.declared.entry.FileKind.TheVariants as file
 use Rattle.item_core.specs.Effects.{is_opened, is_closed, kept_after}
 use Rattle.item_core.specs.History.{count_of, is_dirty, is_kept, made_by, opens_by, opens_of}
 use Rattle.item_core.specs.Legal.{IsNoLater}
-use Rattle.memory_item.specs.Item.{in_file}
-use Rattle.one_session.specs.Calls.{in_tree}
+use Rattle.one_session.specs.Calls.{in_file, in_tree}
 use Rattle.one_session.specs.Matching.{entries_of}
 use Rattle.one_session.specs.Served.{in_file_of, in_tree_of, is_session}
 use Rattle.one_session.specs.Sound.{IsOwnPast, IsSound, IsSoundFile, IsTied, has_file, has_some}
@@ -69,8 +68,8 @@ goes_new files more names = let h : History = record { entries = more; names = n
 }
 
 -- what the session made is its own
-own_entry : (by : By) (under : Bool) (kind : FileKind) → by.who.actor ≡ Session 1 → in_file_of (in_file by under kind) 1 ≡ true
-own_entry by under kind h = ap (λ a. is_session a 1) h
+own_entry : (by : By) (under : Bool) (made : ℕ) (kind : FileKind) → by.who.actor ≡ Session 1 → in_file_of (in_file by under made kind) 1 ≡ true
+own_entry by under made kind h = ap (λ a. is_session a 1) h
 
 pub own_in_tree : (e : TreeEntry) → e.by.who.actor ≡ Session 1 → in_tree_of e 1 ≡ true
 own_in_tree e h = ap (λ a. is_session a 1) h
@@ -79,13 +78,12 @@ own_in_tree e h = ap (λ a. is_session a 1) h
 made_step : (e : Entry) (past : List Entry) → e.by.pass ≡ 0 → made_by 0 (e ∷ past) ≡ e ∷ made_by 0 past
 made_step e past h = rw h refl
 
-own_step : (by : By) (under : Bool) (kind : FileKind) (past : List Entry) → by.who.actor ≡ Session 1 → by.pass ≡ 0 → IsNoLater past by → IsOwnPast past → IsOwnPast (in_file by under kind ∷ past)
-own_step by under kind past own pass later p = record {
-  still = refl;
-  pass = made_step (in_file by under kind) past pass ∙ ap (λ l. in_file by under kind ∷ l) p.pass;
-  alone = ap (entries_of in_file_of 1) (reverse-append (in_file by under kind ∷ []) past) ∙ entries_of-append in_file_of 1 (reverse past) (in_file by under kind ∷ [])
-      ∙ ap (λ l. l ++ entries_of in_file_of 1 (in_file by under kind ∷ [])) p.alone ∙ ap (λ b. reverse past ++ cond b (in_file by under kind ∷ []) []) (own_entry by under kind own) ∙ sym (reverse-append (in_file by under kind ∷ []) past);
-  timely = (no_later past by (in_file by under kind).by refl refl later, p.timely);
+own_step : (by : By) (under : Bool) (made : ℕ) (kind : FileKind) (past : List Entry) → by.who.actor ≡ Session 1 → by.pass ≡ 0 → IsNoLater past by → IsOwnPast past → IsOwnPast (in_file by under made kind ∷ past)
+own_step by under made kind past own pass later p = record {
+  pass = made_step (in_file by under made kind) past pass ∙ ap (λ l. in_file by under made kind ∷ l) p.pass;
+  alone = ap (entries_of in_file_of 1) (reverse-append (in_file by under made kind ∷ []) past) ∙ entries_of-append in_file_of 1 (reverse past) (in_file by under made kind ∷ [])
+      ∙ ap (λ l. l ++ entries_of in_file_of 1 (in_file by under made kind ∷ [])) p.alone ∙ ap (λ b. reverse past ++ cond b (in_file by under made kind ∷ []) []) (own_entry by under made kind own) ∙ sym (reverse-append (in_file by under made kind ∷ []) past);
+  timely = (no_later past by (in_file by under made kind).by refl refl later, p.timely);
 } where
   no_later : (past : List Entry) (a b : By) → a.who.phase ≡ b.who.phase → a.now ≡ b.now → IsNoLater past a → IsNoLater past b
   no_later [] a b w n h = tt
@@ -95,26 +93,26 @@ own_step by under kind past own pass later p = record {
 turned : (e : Entry) (more past : List Entry) → reverse (e ∷ more) ++ past ≡ reverse more ++ (e ∷ past)
 turned e more past = ap (λ l. l ++ past) (reverse-append (e ∷ []) more) ∙ append_assoc (reverse more) (e ∷ []) past
 
-pub own_all : (by : By) (under : Bool) (kinds : List FileKind) (past : List Entry) → by.who.actor ≡ Session 1 → by.pass ≡ 0 → IsNoLater past by → IsOwnPast past → IsOwnPast (reverse (map (in_file by under) kinds) ++ past)
-own_all by under [] past own pass later p = p
-own_all by under (kind ∷ kinds) past own pass later p = subst IsOwnPast (sym (turned (in_file by under kind) (map (in_file by under) kinds) past))
-    (own_all by under kinds (in_file by under kind ∷ past) own pass (omega arith, omega arith) (own_step by under kind past own pass later p))
+pub own_all : (by : By) (under : Bool) (made : ℕ) (kinds : List FileKind) (past : List Entry) → by.who.actor ≡ Session 1 → by.pass ≡ 0 → IsNoLater past by → IsOwnPast past → IsOwnPast (reverse (map (in_file by under made) kinds) ++ past)
+own_all by under made [] past own pass later p = p
+own_all by under made (kind ∷ kinds) past own pass later p = subst IsOwnPast (sym (turned (in_file by under made kind) (map (in_file by under made) kinds) past))
+    (own_all by under made kinds (in_file by under made kind ∷ past) own pass (omega arith, omega arith) (own_step by under made kind past own pass later p))
 
-later_all : (by : By) (under : Bool) (kinds : List FileKind) (past : List Entry) → IsNoLater past by → IsNoLater (reverse (map (in_file by under) kinds) ++ past) by
-later_all by under [] past later = later
-later_all by under (kind ∷ kinds) past later = subst (λ l. IsNoLater l by) (sym (turned (in_file by under kind) (map (in_file by under) kinds) past))
-    (later_all by under kinds (in_file by under kind ∷ past) (omega arith, omega arith))
+later_all : (by : By) (under : Bool) (made : ℕ) (kinds : List FileKind) (past : List Entry) → IsNoLater past by → IsNoLater (reverse (map (in_file by under made) kinds) ++ past) by
+later_all by under made [] past later = later
+later_all by under made (kind ∷ kinds) past later = subst (λ l. IsNoLater l by) (sym (turned (in_file by under made kind) (map (in_file by under made) kinds) past))
+    (later_all by under made kinds (in_file by under made kind ∷ past) (omega arith, omega arith))
 
 -- the history of the file that goes on, its newest entry first
 pub grown_past : {files files' : List History} {item : ℕ} {more : List Entry} → Goes files files' item more → reverse (entries_in files' item) ≡ reverse more ++ reverse (entries_in files item)
 grown_past {files = files} {item = item} {more = more} g = ap reverse g.own ∙ reverse-append (entries_in files item) more
 
 -- nothing is later than what was just made
-pub up_to : (files files' : List History) (item : ℕ) (by : By) (under : Bool) (kinds : List FileKind) → Goes files files' item (map (in_file by under) kinds) → IsUpTo by files → IsUpTo by files'
-up_to files files' item by under kinds g up i = at i (eqb_tells i item) where
+pub up_to : (files files' : List History) (item : ℕ) (by : By) (under : Bool) (made : ℕ) (kinds : List FileKind) → Goes files files' item (map (in_file by under made) kinds) → IsUpTo by files → IsUpTo by files'
+up_to files files' item by under made kinds g up i = at i (eqb_tells i item) where
   at : (i : ℕ) → ((eqb i item ≡ true) × (i ≡ item)) ⊎ ((eqb i item ≡ false) × (i ≢ item)) → IsNoLater (reverse (entries_in files' i)) by
   at i (inl h) = subst (λ j. IsNoLater (reverse (entries_in files' j)) by) (sym h.1)
-      (subst (λ l. IsNoLater l by) (sym (grown_past g)) (later_all by under kinds (reverse (entries_in files item)) (up item)))
+      (subst (λ l. IsNoLater l by) (sym (grown_past g)) (later_all by under made kinds (reverse (entries_in files item)) (up item)))
   at i (inr h) = subst (λ l. IsNoLater l by) (ap reverse (sym (g.others i h.1))) (up i)
 
 -- the tree and the table after a call
@@ -245,11 +243,11 @@ is_ready es paths files table handle k pass s h p =
     (lt, subst (λ n. 0 < opens_by n (reverse (entries_in files k.item))) (sym p) (subst (λ l. 0 < opens_of l) (sym (s.each k.item lt).own.pass) opens))
 
 -- one of the files that is open goes on by an entry that opens and closes nothing and leaves it kept
-pub sound_grown : (es : List TreeEntry) (paths : List (List ℕ)) (files : List History) (table : List (Option Handle)) (handle : ℕ) (k : Handle) (by : By) (kind : FileKind) → IsSound es paths files table → file_at table handle ≡ Some k
+pub sound_grown : (es : List TreeEntry) (paths : List (List ℕ)) (files : List History) (table : List (Option Handle)) (handle : ℕ) (k : Handle) (by : By) (made : ℕ) (kind : FileKind) → IsSound es paths files table → file_at table handle ≡ Some k
     → by.who.actor ≡ Session 1 → by.pass ≡ 0 → IsUpTo by files
     → kept_after kind true ≡ true → is_opened kind ≡ false → is_closed kind ≡ false → names_file kind ≡ false
-    → IsSound es paths (add_to files k.item (in_file by false kind ∷ []) []) table
-sound_grown es paths files table handle k by kind s at own pass up kept o c n = record {
+    → IsSound es paths (add_to files k.item (in_file by false made kind ∷ []) []) table
+sound_grown es paths files table handle k by made kind s at own pass up kept o c n = record {
   size = s.size;
   found = s.found;
   count = s.count ∙ sym same_length;
@@ -269,13 +267,13 @@ sound_grown es paths files table handle k by kind s at own pass up kept o c n = 
   lt = s.inside handle k at
 
   files' : List History
-  files' = add_to files k.item (in_file by false kind ∷ []) []
+  files' = add_to files k.item (in_file by false made kind ∷ []) []
 
-  g : Goes files files' k.item (in_file by false kind ∷ [])
-  g = goes_on files k.item (in_file by false kind ∷ []) [] lt
+  g : Goes files files' k.item (in_file by false made kind ∷ [])
+  g = goes_on files k.item (in_file by false made kind ∷ []) [] lt
 
   same_length : length files' ≡ length files
-  same_length = length-set files k.item (record { entries = entries_in files k.item ++ in_file by false kind ∷ []; names = names_in files k.item ++ [] })
+  same_length = length-set files k.item (record { entries = entries_in files k.item ++ in_file by false made kind ∷ []; names = names_in files k.item ++ [] })
 
   past : List Entry
   past = reverse (entries_in files k.item)
@@ -283,11 +281,11 @@ sound_grown es paths files table handle k by kind s at own pass up kept o c n = 
   each : (i : ℕ) → ((eqb i k.item ≡ true) × (i ≡ k.item)) ⊎ ((eqb i k.item ≡ false) × (i ≢ k.item)) → i < length files → IsSoundFile (reverse (entries_in files' i))
   each i (inl h) l = subst (λ j. IsSoundFile (reverse (entries_in files' j))) (sym h.1) (subst IsSoundFile (sym (grown_past g)) (record {
     kept = ap (kept_after kind) (s.each k.item lt).kept ∙ kept;
-    own = own_step by false kind past own pass (up k.item) (s.each k.item lt).own;
+    own = own_step by false made kind past own pass (up k.item) (s.each k.item lt).own;
   }))
   each i (inr h) l = subst (λ x. IsSoundFile (reverse x)) (sym (g.others i h.1)) (s.each i l)
 
-  steps : (such : FileKind → Bool) (b : Bool) → such kind ≡ b → b ≡ false → count_of such (in_file by false kind ∷ past) ≡ count_of such past
+  steps : (such : FileKind → Bool) (b : Bool) → such kind ≡ b → b ≡ false → count_of such (in_file by false made kind ∷ past) ≡ count_of such past
   steps such true e h = absurd (cc)
   steps such false e h = rw e refl
 
@@ -302,18 +300,18 @@ sound_grown es paths files table handle k by kind s at own pass up kept o c n = 
   tied i (inr h) = subst (λ x. IsTied es table i (reverse x)) (sym (g.others i h.1)) (s.tied i)
 
   named : (i : ℕ) → ((eqb i k.item ≡ true) × (i ≡ k.item)) ⊎ ((eqb i k.item ≡ false) × (i ≢ k.item)) → i < length files → IsNamed es i (history_in files' i)
-  named i (inl h) l = let new : History = record { entries = entries_in files k.item ++ in_file by false kind ∷ []; names = names_in files k.item ++ [] } in
+  named i (inl h) l = let new : History = record { entries = entries_in files k.item ++ in_file by false made kind ∷ []; names = names_in files k.item ++ [] } in
       subst (λ j. IsNamed es j (history_in files' j)) (sym h.1) (subst (IsNamed es k.item) (sym (get_or-set_same files k.item new (record { entries = []; names = [] }) lt)) (record {
-        count = ap length (append-nil (names_in files k.item)) ∙ (s.named k.item lt).count ∙ sym (ap (count_of names_file) (reverse-append (entries_in files k.item) (in_file by false kind ∷ [])) ∙ steps names_file (names_file kind) refl n);
+        count = ap length (append-nil (names_in files k.item)) ∙ (s.named k.item lt).count ∙ sym (ap (count_of names_file) (reverse-append (entries_in files k.item) (in_file by false made kind ∷ [])) ∙ steps names_file (names_file kind) refl n);
         each = subst (AllByRecursion (λ name. item_of es name ≡ Some k.item)) (sym (append-nil (names_in files k.item))) (s.named k.item lt).each;
       }))
-  named i (inr h) l = subst (IsNamed es i) (sym (get_or-set_other files k.item i (record { entries = entries_in files k.item ++ in_file by false kind ∷ []; names = names_in files k.item ++ [] }) (record { entries = []; names = [] }) h.1)) (s.named i l)
+  named i (inr h) l = subst (IsNamed es i) (sym (get_or-set_other files k.item i (record { entries = entries_in files k.item ++ in_file by false made kind ∷ []; names = names_in files k.item ++ [] }) (record { entries = []; names = [] }) h.1)) (s.named i l)
 
 -- a handle of a file is closed
-pub sound_shut : (es : List TreeEntry) (paths : List (List ℕ)) (files : List History) (table : List (Option Handle)) (h : ℕ) (k : Handle) (by : By) (dirty : Bool) → IsSound es paths files table → h < length table → file_at table h ≡ Some k
+pub sound_shut : (es : List TreeEntry) (paths : List (List ℕ)) (files : List History) (table : List (Option Handle)) (h : ℕ) (k : Handle) (by : By) (made : ℕ) (dirty : Bool) → IsSound es paths files table → h < length table → file_at table h ≡ Some k
     → by.who.actor ≡ Session 1 → by.pass ≡ 0 → IsUpTo by files → dirty ≡ is_dirty (reverse (entries_in files k.item))
-    → IsSound (es ++ in_tree by (tree.Closed (record { 0 = k.item }) dirty) ∷ []) paths (add_to files k.item (in_file by true file.Closed ∷ []) []) (set table h None)
-sound_shut es paths files table h k by dirty s small at own pass up was = record {
+    → IsSound (es ++ in_tree by (tree.Closed (record { 0 = k.item }) dirty) ∷ []) paths (add_to files k.item (in_file by true made file.Closed ∷ []) []) (set table h None)
+sound_shut es paths files table h k by made dirty s small at own pass up was = record {
   size = fit.size;
   found = λ path. s.found path ∙ sym (item_more es e path);
   count = s.count ∙ sym same_length;
@@ -333,13 +331,13 @@ sound_shut es paths files table h k by dirty s small at own pass up was = record
   lt = s.inside h k at
 
   files' : List History
-  files' = add_to files k.item (in_file by true file.Closed ∷ []) []
+  files' = add_to files k.item (in_file by true made file.Closed ∷ []) []
 
   new : History
-  new = record { entries = entries_in files k.item ++ in_file by true file.Closed ∷ []; names = names_in files k.item ++ [] }
+  new = record { entries = entries_in files k.item ++ in_file by true made file.Closed ∷ []; names = names_in files k.item ++ [] }
 
-  g : Goes files files' k.item (in_file by true file.Closed ∷ [])
-  g = goes_on files k.item (in_file by true file.Closed ∷ []) [] lt
+  g : Goes files files' k.item (in_file by true made file.Closed ∷ [])
+  g = goes_on files k.item (in_file by true made file.Closed ∷ []) [] lt
 
   same_length : length files' ≡ length files
   same_length = length-set files k.item new
@@ -353,7 +351,7 @@ sound_shut es paths files table h k by dirty s small at own pass up was = record
   each : (i : ℕ) → ((eqb i k.item ≡ true) × (i ≡ k.item)) ⊎ ((eqb i k.item ≡ false) × (i ≢ k.item)) → i < length files → IsSoundFile (reverse (entries_in files' i))
   each i (inl q) l = subst (λ j. IsSoundFile (reverse (entries_in files' j))) (sym q.1) (subst IsSoundFile (sym (grown_past g)) (record {
     kept = (s.each k.item lt).kept;
-    own = own_step by true file.Closed past own pass (up k.item) (s.each k.item lt).own;
+    own = own_step by true made file.Closed past own pass (up k.item) (s.each k.item lt).own;
   }))
   each i (inr q) l = subst (λ x. IsSoundFile (reverse x)) (sym (g.others i q.1)) (s.each i l)
 
@@ -386,7 +384,7 @@ sound_shut es paths files table h k by dirty s small at own pass up was = record
 
   named : (i : ℕ) → ((eqb i k.item ≡ true) × (i ≡ k.item)) ⊎ ((eqb i k.item ≡ false) × (i ≢ k.item)) → i < length files → IsNamed (es ++ e ∷ []) i (history_in files' i)
   named i (inl q) l = subst (λ j. IsNamed (es ++ e ∷ []) j (history_in files' j)) (sym q.1) (subst (IsNamed (es ++ e ∷ []) k.item) (sym (get_or-set_same files k.item new (record { entries = []; names = [] }) lt)) (record {
-    count = ap length (append-nil (names_in files k.item)) ∙ (s.named k.item lt).count ∙ sym (ap (count_of names_file) (reverse-append (entries_in files k.item) (in_file by true file.Closed ∷ [])));
+    count = ap length (append-nil (names_in files k.item)) ∙ (s.named k.item lt).count ∙ sym (ap (count_of names_file) (reverse-append (entries_in files k.item) (in_file by true made file.Closed ∷ [])));
     each = subst (AllByRecursion (λ name. item_of (es ++ e ∷ []) name ≡ Some k.item)) (sym (append-nil (names_in files k.item))) (names (names_in files k.item) k.item (s.named k.item lt).each);
   }))
   named i (inr q) l = subst (IsNamed (es ++ e ∷ []) i) (sym (get_or-set_other files k.item i new (record { entries = []; names = [] }) q.1)) (record { count = (s.named i l).count; each = names (names_in files i) i (s.named i l).each })
@@ -421,11 +419,11 @@ kind_files true path item print old = refl
 kind_files false path item print old = refl
 
 -- a file was opened
-pub sound_opened : (es : List TreeEntry) (paths paths' : List (List ℕ)) (files files' : List History) (table : List (Option Handle)) (h : ℕ) (k : Handle) (by : By) (created : Bool) (path : List ℕ) (print : Option Fingerprint) (kinds : List FileKind) → IsSound es paths files table → h < length table → file_at table h ≡ None
-    → by.who.actor ≡ Session 1 → by.pass ≡ 0 → IsUpTo by files → Goes files files' k.item (map (in_file by true) kinds)
-    → is_kept (reverse (map (in_file by true) kinds) ++ reverse (entries_in files k.item)) ≡ true
-    → count_of is_opened (reverse (map (in_file by true) kinds) ++ reverse (entries_in files k.item)) ≡ count_of is_opened (reverse (entries_in files k.item)) + 1
-    → count_of is_closed (reverse (map (in_file by true) kinds) ++ reverse (entries_in files k.item)) ≡ count_of is_closed (reverse (entries_in files k.item))
+pub sound_opened : (es : List TreeEntry) (paths paths' : List (List ℕ)) (files files' : List History) (table : List (Option Handle)) (h : ℕ) (k : Handle) (by : By) (made : ℕ) (created : Bool) (path : List ℕ) (print : Option Fingerprint) (kinds : List FileKind) → IsSound es paths files table → h < length table → file_at table h ≡ None
+    → by.who.actor ≡ Session 1 → by.pass ≡ 0 → IsUpTo by files → Goes files files' k.item (map (in_file by true made) kinds)
+    → is_kept (reverse (map (in_file by true made) kinds) ++ reverse (entries_in files k.item)) ≡ true
+    → count_of is_opened (reverse (map (in_file by true made) kinds) ++ reverse (entries_in files k.item)) ≡ count_of is_opened (reverse (entries_in files k.item)) + 1
+    → count_of is_closed (reverse (map (in_file by true made) kinds) ++ reverse (entries_in files k.item)) ≡ count_of is_closed (reverse (entries_in files k.item))
     → IsOwnPast (reverse (entries_in files k.item))
     → length files ≤ length files' → k.item < length files' → ((i : ℕ) → i < length files' → i ≢ k.item → i < length files)
     → length files' ≤ length (es ++ in_tree by (opened_kind created path k.item print) ∷ []) → length paths' ≡ length files'
@@ -433,7 +431,7 @@ pub sound_opened : (es : List TreeEntry) (paths paths' : List (List ℕ)) (files
     → files_of (es ++ in_tree by (opened_kind created path k.item print) ∷ []) ≡ length files'
     → ((i : ℕ) → i < length files' → IsNamed (es ++ in_tree by (opened_kind created path k.item print) ∷ []) i (history_in files' i))
     → IsSound (es ++ in_tree by (opened_kind created path k.item print) ∷ []) paths' files' (set table h (Some k))
-sound_opened es paths paths' files files' table h k by created path print kinds s small at own pass up g kept opens closes mine le inner below few count found numbered named = record {
+sound_opened es paths paths' files files' table h k by made created path print kinds s small at own pass up g kept opens closes mine le inner below few count found numbered named = record {
   size = fit.size;
   found = found;
   count = count;
@@ -453,7 +451,7 @@ sound_opened es paths paths' files files' table h k by created path print kinds 
   past = reverse (entries_in files k.item)
 
   more : List Entry
-  more = map (in_file by true) kinds
+  more = map (in_file by true made) kinds
 
   fit : Fit (es ++ e ∷ []) (set table h (Some k)) (length files')
   fit = fit_opened es e table h k (length files) (length files') (same_fit es paths files table s) le inner (kind_open created path k.item print) (kind_close created path k.item print) own small at
@@ -461,7 +459,7 @@ sound_opened es paths paths' files files' table h k by created path print kinds 
   each : (i : ℕ) → ((eqb i k.item ≡ true) × (i ≡ k.item)) ⊎ ((eqb i k.item ≡ false) × (i ≢ k.item)) → i < length files' → IsSoundFile (reverse (entries_in files' i))
   each i (inl q) l = subst (λ j. IsSoundFile (reverse (entries_in files' j))) (sym q.1) (subst IsSoundFile (sym (grown_past g)) (record {
     kept = kept;
-    own = own_all by true kinds past own pass (up k.item) mine;
+    own = own_all by true made kinds past own pass (up k.item) mine;
   }))
   each i (inr q) l = subst (λ x. IsSoundFile (reverse x)) (sym (g.others i q.1)) (s.each i (below i l q.1))
 

@@ -18,9 +18,8 @@ use Rattle.item_core.specs.Legal.{holds}
 use Rattle.item_core.specs.declared.entry.Entry.{Entry}
 use Rattle.item_core.specs.declared.entry.FileKind.{FileKind}
 use Rattle.item_core.specs.declared.entry.FileKind.TheVariants as file
-use Rattle.memory_item.specs.Item.{in_file}
 use Rattle.shown_rows.specs.declared.Shown.TheVariants.{Object}
-use Rattle.one_session.specs.Calls.{IsItemAt, ListsOnce, OpensPath, ShowsDir, ShowsNothing, ShowsObject, WasHeld, in_tree, refused_open}
+use Rattle.one_session.specs.Calls.{IsItemAt, ListsOnce, OpensPath, ShowsDir, ShowsNothing, ShowsObject, WasHeld, in_file, in_tree, refused_open}
 use Rattle.one_session.specs.Causes.{HandsBig, IsUnshown, ends_gone, is_gone}
 use Rattle.one_session.specs.Looking.{Chooses, Gives, MeetsObject, Plans, Refuses, Starts}
 use Rattle.one_session.specs.Start.{MayStart, front_of, given_by, is_create, opened_kind, opening}
@@ -104,25 +103,25 @@ module _ {O S : Type 0} (print_of : O → Fingerprint) (met : Met) (seen : List 
   may_start kept (Adopt object) h = let i = idle met past m.busy h.0.unused in (i.0, i.1, h.1, inr (ap (λ o. holds o (print_of object)) (sym m.held) ∙ h.2))
 
   -- it opens the path as opens do
-  pub opens_path : (item : ℕ) (print : Option Fingerprint) (by : By) (start : Start O S) → IsItemAt seen path item → print ≡ held_by (reverse (map (in_file by true) (front_of print_of start)) ++ past) → Starts print_of met start
+  pub opens_path : (item : ℕ) (print : Option Fingerprint) (by : By) (made : ℕ) (start : Start O S) → IsItemAt seen path item → print ≡ held_by (reverse (map (in_file by true made) (front_of print_of start)) ++ past) → Starts print_of met start
       → OpensPath how path item print (opened_kind (is_create start) path item print) seen
-  opens_path item print by Kept at p (inl h) = (at, inl (sym m.used ∙ h, refl))
-  opens_path item print by Kept at p (inr h) = (at, inr (inl (record { free = sym m.used ∙ h.0; print = h.1.0; there = sym m.there ∙ h.1.1 }, subst (λ o. IsSome o) (sym (p ∙ sym m.held ∙ h.1.2)) refl, refl)))
-  opens_path item print by Create at p h = (at, inr (inr (record { free = sym m.used ∙ h.0; nothing = sym m.there ∙ h.1 }, sym m.create ∙ h.2, refl)))
-  opens_path item print by (Bind object) at p h = (at, inr (inl (meets_object met seen path how past m h.0, subst (λ o. IsSome o) (sym (p ∙ sym m.held)) (held_some met.held (print_of object) h.1), refl)))
-  opens_path item print by (Adopt object) at p h = (at, inr (inl (meets_object met seen path how past m h.0, subst (λ o. IsSome o) (sym p) refl, refl)))
+  opens_path item print by made Kept at p (inl h) = (at, inl (sym m.used ∙ h, refl))
+  opens_path item print by made Kept at p (inr h) = (at, inr (inl (record { free = sym m.used ∙ h.0; print = h.1.0; there = sym m.there ∙ h.1.1 }, subst (λ o. IsSome o) (sym (p ∙ sym m.held ∙ h.1.2)) refl, refl)))
+  opens_path item print by made Create at p h = (at, inr (inr (record { free = sym m.used ∙ h.0; nothing = sym m.there ∙ h.1 }, sym m.create ∙ h.2, refl)))
+  opens_path item print by made (Bind object) at p h = (at, inr (inl (meets_object met seen path how past m h.0, subst (λ o. IsSome o) (sym (p ∙ sym m.held)) (held_some met.held (print_of object) h.1), refl)))
+  opens_path item print by made (Adopt object) at p h = (at, inr (inl (meets_object met seen path how past m h.0, subst (λ o. IsSome o) (sym p) refl, refl)))
 
 -- what a file held before its last entry opened it
-pub held_is : (files : List History) (item : ℕ) (old : List Entry) (by : By) (access : Access) (front : List FileKind) (n : ℕ) (print : Option Fingerprint) → entries_in files item ≡ old ++ opening by access front → n ≡ length old + length front
-    → WasHeld files item n print → print ≡ held_by (reverse (map (in_file by true) front) ++ reverse old)
-held_is files item old by access front n print is at w = w.so ∙ ap (λ l. held_by (reverse l)) cut ∙ ap held_by (reverse-append old (map (in_file by true) front)) where
-  length_mapped : (kinds : List FileKind) → length (map (in_file by true) kinds) ≡ length kinds
+pub held_is : (files : List History) (item : ℕ) (old : List Entry) (by : By) (access : Access) (made : ℕ) (front : List FileKind) (n : ℕ) (print : Option Fingerprint) → entries_in files item ≡ old ++ opening by access made front → n ≡ length old + length front
+    → WasHeld files item n print → print ≡ held_by (reverse (map (in_file by true made) front) ++ reverse old)
+held_is files item old by access made front n print is at w = w.so ∙ ap (λ l. held_by (reverse l)) cut ∙ ap held_by (reverse-append old (map (in_file by true made) front)) where
+  length_mapped : (kinds : List FileKind) → length (map (in_file by true made) kinds) ≡ length kinds
   length_mapped [] = refl
   length_mapped (kind ∷ kinds) = ap suc (length_mapped kinds)
 
-  cut : take n (entries_in files item) ≡ old ++ map (in_file by true) front
-  cut = ap (take n) (is ∙ ap (λ l. old ++ l) (map-append (in_file by true) front (file.Opened access ∷ [])) ∙ sym (append_assoc old (map (in_file by true) front) (in_file by true (file.Opened access) ∷ [])))
-      ∙ take_whole (old ++ map (in_file by true) front) (in_file by true (file.Opened access) ∷ []) n (at ∙ ap (λ k. length old + k) (sym (length_mapped front)) ∙ sym (length-append old (map (in_file by true) front)))
+  cut : take n (entries_in files item) ≡ old ++ map (in_file by true made) front
+  cut = ap (take n) (is ∙ ap (λ l. old ++ l) (map-append (in_file by true made) front (file.Opened access ∷ [])) ∙ sym (append_assoc old (map (in_file by true made) front) (in_file by true made (file.Opened access) ∷ [])))
+      ∙ take_whole (old ++ map (in_file by true made) front) (in_file by true made (file.Opened access) ∷ []) n (at ∙ ap (λ k. length old + k) (sym (length_mapped front)) ∙ sym (length-append old (map (in_file by true made) front)))
 
 -- the path wasn't shown before a refusal
 pub unshown : (seen new : List TreeEntry) (e : TreeEntry) (path : List ℕ) → new ≡ seen ++ e ∷ [] → shown seen path ≡ None → ends_gone (reverse seen) path ≡ false → IsUnshown new path (length seen)

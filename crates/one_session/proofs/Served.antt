@@ -1,5 +1,5 @@
 -- A session's calls, from none on.
-use Rattle.std.proofs.Common.{◌≡◌, ◌<◌, ◌++◌, ◌∙◌, ap, sym, refl, subst, arith, ℕ, zero, suc, Option, None, List, [], ◌∷◌, length, reverse}
+use Rattle.std.proofs.Common.{◌≡◌, ◌<◌, ◌++◌, ap, sym, refl, subst, arith, ℕ, zero, suc, None, List, [], ◌∷◌, length, reverse}
 use Rattle.std.specs.List.{AllByRecursion}
 use Rattle.std.proofs.lemmas.List.{reverse-reverse}
 use Rattle.vfs_names.specs.declared.fingerprint.Fingerprint.{Fingerprint}
@@ -10,16 +10,14 @@ use Rattle.vfs_outside.specs.declared.tree.TreeEntry.{TreeEntry}
 use Rattle.item_core.specs.Content.{Known}
 use Rattle.item_core.specs.declared.entry.Entry.{Entry}
 use Rattle.item_core.specs.Legal.{IsLegal, IsTimely}
-use Rattle.memory_item.specs.Known.{Holds}
 use Rattle.session_script.specs.declared.call.Call.{Call}
-use Rattle.session_script.specs.declared.call.Call.TheVariants as call
 use Rattle.session_script.specs.declared.call.CallLine.{CallLine}
 use Rattle.session_text.specs.declared.reply.Record.{Record}
 use Rattle.one_session.specs.Calls.{TreeDoes}
 use Rattle.one_session.specs.Causes.{CauseOf, HasRemoteCause}
 use Rattle.one_session.specs.Did.{Did}
 use Rattle.one_session.specs.Matching.{entries_of}
-use Rattle.one_session.specs.Served.{Fits, Serves, in_file_of, in_tree_of}
+use Rattle.one_session.specs.Served.{Fits, Knows, Serves, in_file_of, in_tree_of}
 use Rattle.one_session.specs.Sound.{IsSound}
 use Rattle.one_session.specs.State.{History, State, Step, entries_in, file_at}
 use Rattle.one_session.specs.Whole.{IsWhole, IsWholeFile}
@@ -46,10 +44,10 @@ pub did_with : (holds : Known → Type 0) (by : By) (c : Call) (done : Record) (
 did_with holds by c done s t r r' x x' n n' d = record { answered = d.answered; handles = d.handles; full = d.full; limit = d.limit; in_tree = d.in_tree; in_file = d.in_file }
 
 -- a call was served
-pub serves : (tells : Type 0) (more before : List (Fingerprint × List ℕ)) (by : By) (line : CallLine) (done : Record) (s t : State) (r r' : List Record) (x x' : List Step) (n n' : ℕ) → by.who.actor ≡ Session 1 → done.line ≡ line.line → r' ≡ r ++ done ∷ []
-    → Did 1 (Holds tells (more ++ before)) by line.call done s t → Serves 1 tells before (more ++ before) by line done (record s { records = r; steps = x; room = n }) (record t { records = r'; steps = x'; room = n' })
-serves tells more before by line done s t r r' x x' n n' own numbered recorded d = let did = did_with (Holds tells (more ++ before)) by line.call done s t r r' x x' n n' d in record {
-  fits = goes 1 (Holds tells before) (Holds tells (more ++ before)) (holds_part tells more before) by line done (record s { records = r; steps = x; room = n }) (record t { records = r'; steps = x'; room = n' }) own numbered did recorded;
+pub serves : (kept tells : Type 0) (more before : List (Fingerprint × List ℕ)) (by : By) (line : CallLine) (done : Record) (s t : State) (r r' : List Record) (x x' : List Step) (n n' : ℕ) → by.who.actor ≡ Session 1 → done.line ≡ line.line → r' ≡ r ++ done ∷ []
+    → Did 1 (Knows kept tells (more ++ before)) by line.call done s t → Serves 1 kept tells before (more ++ before) by line done (record s { records = r; steps = x; room = n }) (record t { records = r'; steps = x'; room = n' })
+serves kept tells more before by line done s t r r' x x' n n' own numbered recorded d = let did = did_with (Knows kept tells (more ++ before)) by line.call done s t r r' x x' n n' d in record {
+  fits = goes 1 (Knows kept tells before) (Knows kept tells (more ++ before)) (λ known h. (h.0, holds_part tells more before known h.1)) by line done (record s { records = r; steps = x; room = n }) (record t { records = r'; steps = x'; room = n' }) own numbered did recorded;
   records = recorded;
   limit = d.limit;
   more = (grown in_tree_of 1 (TreeDoes by t.files line.call done) done.tree s.tree t.tree d.in_tree).0;

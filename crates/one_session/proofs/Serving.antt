@@ -13,12 +13,12 @@ use Rattle.vfs_outside.specs.declared.tree.TreeKind.{TreeKind}
 use Rattle.item_core.specs.declared.entry.Entry.{Entry}
 use Rattle.item_core.specs.Content.{Known}
 use Rattle.item_core.specs.History.{held_by, is_dirty}
-use Rattle.memory_item.specs.Known.{Holds}
+use Rattle.item_image.specs.Premise.{Holds}
 use Rattle.session_script.specs.declared.call.Call.{Call}
 use Rattle.session_script.specs.declared.call.Call.TheVariants as call
 use Rattle.session_script.specs.declared.call.CallLine.{CallLine}
 use Rattle.session_text.specs.declared.reply.Record.{Record}
-use Rattle.one_session.specs.Calls.{AfterLook, IsFull, Answers, AnswersOpen, AnswersRead, AnswersWrite, AnswersClose, in_tree, OpenAdds, OpensPath, ReadsLatest, TreeDoes, FileDoes, WasDirty, WasHeld}
+use Rattle.one_session.specs.Calls.{AfterLook, IsFull, Answers, AnswersOpen, AnswersRead, AnswersWrite, AnswersSize, AnswersClose, in_tree, OpenAdds, OpensPath, ReadsLatest, TreeDoes, FileDoes, WasDirty, WasHeld}
 use Rattle.one_session.specs.Did.{Did, Grows}
 use Rattle.one_session.specs.Matching.{entries_of}
 use Rattle.one_session.specs.Served.{place_in, AreFull, end_after, file_then, reached, tree_then, Served, Fits, TreeMatches, FileMatches, in_tree_of, in_file_of, tree_place, file_place, open_at, open_after}
@@ -90,7 +90,7 @@ answers_along : (a b : ℕ → Option Handle) (c : Call) (done : Record) → ((h
 answers_along a b (call.Open h path how) done e x = subst (λ o. AnswersOpen o done) (e h) x
 answers_along a b (call.Read h pos len) done e x = subst (λ o. AnswersRead o len done) (e h) x
 answers_along a b (call.Write h pos payload) done e x = subst (λ o. AnswersWrite o pos payload done) (e h) x
-answers_along a b (call.Size h size) done e x = x
+answers_along a b (call.Size h size) done e x = subst (λ o. AnswersSize o size done) (e h) x
 answers_along a b (call.Close h) done e x = subst (λ o. AnswersClose o done) (e h) x
 answers_along a b (call.Stat path) done e x = x
 answers_along a b (call.List path) done e x = x
@@ -114,7 +114,7 @@ full_along l l' a b f g o p (call.Open h path how) m e k q (inl x) = inl (rw (m,
 full_along l l' a b f g o p (call.Open h path how) m e k q (inr x) = inr (x.0, ap (λ t. item_of t path) e ∙ x.1, rw (m, k x.0) x.2)
 full_along l l' a b f g o p (call.Read h pos len) m e k q x = (x.0, ap item_at (q h) ∙ x.1, rw (m, k x.0) x.2)
 full_along l l' a b f g o p (call.Write h pos payload) m e k q x = (x.0, ap item_at (q h) ∙ x.1, rw (m, k x.0) x.2)
-full_along l l' a b f g o p (call.Size h size) m e k q x = x
+full_along l l' a b f g o p (call.Size h size) m e k q x = (x.0, ap item_at (q h) ∙ x.1, rw (m, k x.0) x.2)
 full_along l l' a b f g o p (call.Close h) m e k q x = x
 full_along l l' a b f g o p (call.Stat path) m e k q x = x
 full_along l l' a b f g o p (call.List path) m e k q x = x
@@ -144,7 +144,7 @@ full_stays (d ∷ served) l' l tree tree' files files' e more on go in_tree in_f
 
 -- what a call does to a file is so by fewer contents
 latest_stays : (holds holds' : Known → Type 0) → ((known : Known) → holds' known → holds known) → (before : List Entry) (pos len : ℕ) (found : List ℕ) → ReadsLatest holds before pos len found → ReadsLatest holds' before pos len found
-latest_stays holds holds' fewer before pos len found r = record { count = r.count; latest = λ known h. r.latest known (fewer known h); written = r.written }
+latest_stays holds holds' fewer before pos len found r = record { count = r.count; latest = λ known h. r.latest known (fewer known h) }
 
 file_stays : (holds holds' : Known → Type 0) → ((known : Known) → holds' known → holds known) → (by : By) (c : Call) (done : Record) (before added : List Entry) → FileDoes holds by c done before added → FileDoes holds' by c done before added
 file_stays holds holds' fewer by (call.Open h path how) done before added d = d

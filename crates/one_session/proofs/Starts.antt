@@ -18,8 +18,7 @@ use Rattle.item_core.specs.declared.entry.FileKind.{FileKind}
 use Rattle.item_core.specs.declared.entry.FileKind.TheVariants as file
 use Rattle.item_core.specs.Effects.{is_opened, is_closed}
 use Rattle.item_core.specs.History.{count_of, is_kept}
-use Rattle.memory_item.specs.Item.{in_file}
-use Rattle.one_session.specs.Calls.{Begins, in_tree}
+use Rattle.one_session.specs.Calls.{Begins, in_file, in_tree}
 use Rattle.one_session.specs.Sound.{IsOwnPast, IsSound, has_file, has_some}
 use Rattle.one_session.specs.Start.{MayStart, front_of, named_by, opened_kind, opening}
 use Rattle.one_session.specs.State.{History, entries_in, file_at, history_in, names_in}
@@ -34,26 +33,26 @@ use Rattle.one_session.proofs.PathLists.{end_no, end_yes, position_inside}
 use Rattle.one_session.proofs.Tables.{count_none, none_open}
 use Rattle.one_session.proofs.Trees.{files_more, item_more}
 
-module _ {O S : Type 0} (print_of : O → Fingerprint) (by : By) (access : Access) where
-  pub start_opened : (start : Start O S) (past : List Entry) → count_of is_opened (reverse (opening by access (front_of print_of start)) ++ past) ≡ count_of is_opened past + 1
+module _ {O S : Type 0} (print_of : O → Fingerprint) (by : By) (access : Access) (made : ℕ) where
+  pub start_opened : (start : Start O S) (past : List Entry) → count_of is_opened (reverse (opening by access made (front_of print_of start)) ++ past) ≡ count_of is_opened past + 1
   start_opened Kept past = refl
   start_opened Create past = refl
   start_opened (Bind object) past = refl
   start_opened (Adopt object) past = refl
 
-  pub start_closed : (start : Start O S) (past : List Entry) → count_of is_closed (reverse (opening by access (front_of print_of start)) ++ past) ≡ count_of is_closed past
+  pub start_closed : (start : Start O S) (past : List Entry) → count_of is_closed (reverse (opening by access made (front_of print_of start)) ++ past) ≡ count_of is_closed past
   start_closed Kept past = refl
   start_closed Create past = refl
   start_closed (Bind object) past = refl
   start_closed (Adopt object) past = refl
 
-  pub start_kept : (start : Start O S) (past : List Entry) → MayStart print_of start past → is_kept (reverse (opening by access (front_of print_of start)) ++ past) ≡ true
+  pub start_kept : (start : Start O S) (past : List Entry) → MayStart print_of start past → is_kept (reverse (opening by access made (front_of print_of start)) ++ past) ≡ true
   start_kept Kept past may = may
   start_kept Create past may = refl
   start_kept (Bind object) past may = may.0
   start_kept (Adopt object) past may = refl
 
-  pub start_names : (start : Start O S) (path : List ℕ) (past : List Entry) (names : List (List ℕ)) → length names ≡ count_of names_file past → length (names ++ named_by path start) ≡ count_of names_file (reverse (opening by access (front_of print_of start)) ++ past)
+  pub start_names : (start : Start O S) (path : List ℕ) (past : List Entry) (names : List (List ℕ)) → length names ≡ count_of names_file past → length (names ++ named_by path start) ≡ count_of names_file (reverse (opening by access made (front_of print_of start)) ++ past)
   start_names Kept path past names h = ap length (append-nil names) ∙ h
   start_names Create path past names h = length-append names (path ∷ []) ∙ ap (λ n. n + 1) h
   start_names (Bind object) path past names h = ap length (append-nil names) ∙ h
@@ -117,19 +116,19 @@ either i item = tell (eqb_tells i item) where
 some_is : (a b : ℕ) → Some a ≡ Some b → a ≡ b
 some_is a b e = cc
 
-module _ {O S : Type 0} (print_of : O → Fingerprint) (es : List TreeEntry) (paths : List (List ℕ)) (files : List History) (table : List (Option Handle)) (h : ℕ) (by : By) (path : List ℕ) (access : Access) (created : Bool) (print : Option Fingerprint) (start : Start O S)
+module _ {O S : Type 0} (print_of : O → Fingerprint) (es : List TreeEntry) (paths : List (List ℕ)) (files : List History) (table : List (Option Handle)) (h : ℕ) (by : By) (path : List ℕ) (access : Access) (made : ℕ) (created : Bool) (print : Option Fingerprint) (start : Start O S)
     (s : IsSound es paths files table) (small : h < length table) (at : file_at table h ≡ None) (own : by.who.actor ≡ Session 1) (pass : by.pass ≡ 0) (up : IsUpTo by files) where
   abbrev pub kinds : List FileKind
   kinds = front_of print_of start ++ file.Opened access ∷ []
 
   abbrev pub more : List Entry
-  more = opening by access (front_of print_of start)
+  more = opening by access made (front_of print_of start)
 
   -- the file that the path has was opened
   pub sound_again : (item : ℕ) → item < length files → item_of es path ≡ Some item → MayStart print_of start (reverse (entries_in files item))
       → IsSound (es ++ in_tree by (opened_kind created path item print) ∷ []) paths (add_to files item more (named_by path start)) (set table h (Some (record { item = item; access = access })))
-  sound_again item lt is may = sound_opened es paths paths files files' table h (record { item = item; access = access }) by created path print kinds s small at own pass up g
-      (start_kept print_of by access start past may) (start_opened print_of by access start past) (start_closed print_of by access start past) (s.each item lt).own
+  sound_again item lt is may = sound_opened es paths paths files files' table h (record { item = item; access = access }) by made created path print kinds s small at own pass up g
+      (start_kept print_of by access made start past may) (start_opened print_of by access made start past) (start_closed print_of by access made start past) (s.each item lt).own
       (omega (arith, same_length)) (omega (arith, same_length, lt)) (λ i l ne. omega (arith, same_length, l)) (omega (arith, same_length, s.few, length-append es (e ∷ []))) (s.count ∙ sym same_length)
       (λ q. s.found q ∙ found q) (files_more es e ∙ kind_files created path item print (files_of es) ∙ ap (λ n. max n (item + 1)) s.numbered ∙ most (length files) item lt ∙ sym same_length)
       (λ i l. named i (either i item) (omega (arith, same_length, l))) where
@@ -162,7 +161,7 @@ module _ {O S : Type 0} (print_of : O → Fingerprint) (es : List TreeEntry) (pa
 
         named : (i : ℕ) → (i ≡ item ⊎ i ≢ item) → i < length files → IsNamed (es ++ e ∷ []) i (history_in files' i)
         named i (inl q) l = subst (λ j. IsNamed (es ++ e ∷ []) j (history_in files' j)) (sym q) (subst (IsNamed (es ++ e ∷ []) item) (sym (get_or-set_same files item new (record { entries = []; names = [] }) lt)) (record {
-          count = start_names print_of by access start path past (names_in files item) (s.named item lt).count ∙ ap (count_of names_file) (sym (reverse-append (entries_in files item) more));
+          count = start_names print_of by access made start path past (names_in files item) (s.named item lt).count ∙ ap (count_of names_file) (sym (reverse-append (entries_in files item) more));
           each = start_paths (λ name. item_of (es ++ e ∷ []) name ≡ Some item) path start (names_in files item)
               (named_stay es by created path item print (names_in files item) item (λ ne. absurd (ne refl)) (s.named item lt).each (inl refl)) (sym (found path) ∙ is);
         }))
@@ -174,10 +173,10 @@ module _ {O S : Type 0} (print_of : O → Fingerprint) (es : List TreeEntry) (pa
   -- a file was made for the path and opened
   pub sound_new : item_of es path ≡ None → MayStart print_of start []
       → IsSound (es ++ in_tree by (opened_kind created path (length files) print) ∷ []) (paths ++ path ∷ []) (files ++ record { entries = more; names = named_by path start } ∷ []) (set table h (Some (record { item = length files; access = access })))
-  sound_new is may = sound_opened es paths (paths ++ path ∷ []) files files' table h (record { item = length files; access = access }) by created path print kinds s small at own pass up g
-      (subst (λ l. is_kept (reverse more ++ l) ≡ true) (sym none) (start_kept print_of by access start [] may))
-      (start_opened print_of by access start past) (start_closed print_of by access start past)
-      (subst IsOwnPast (sym none) (record { still = refl; pass = refl; alone = refl; timely = tt }))
+  sound_new is may = sound_opened es paths (paths ++ path ∷ []) files files' table h (record { item = length files; access = access }) by made created path print kinds s small at own pass up g
+      (subst (λ l. is_kept (reverse more ++ l) ≡ true) (sym none) (start_kept print_of by access made start [] may))
+      (start_opened print_of by access made start past) (start_closed print_of by access made start past)
+      (subst IsOwnPast (sym none) (record { pass = refl; alone = refl; timely = tt }))
       (omega (arith, longer)) (omega (arith, longer)) (λ i l ne. below i l ne) (omega (arith, longer, s.few, length-append es (e ∷ []))) (length-append paths (path ∷ []) ∙ ap (λ n. n + 1) s.count ∙ sym longer)
       found (files_more es e ∙ kind_files created path (length files) print (files_of es) ∙ ap (λ n. max n (length files + 1)) s.numbered ∙ most (length files) ∙ sym longer)
       (λ i l. named i (either i (length files)) l) where
@@ -220,7 +219,7 @@ module _ {O S : Type 0} (print_of : O → Fingerprint) (es : List TreeEntry) (pa
 
         named : (i : ℕ) → (i ≡ length files ⊎ i ≢ length files) → i < length files' → IsNamed (es ++ e ∷ []) i (history_in files' i)
         named i (inl q) l = subst (λ j. IsNamed (es ++ e ∷ []) j (history_in files' j)) (sym q) (subst (IsNamed (es ++ e ∷ []) (length files)) (sym (last_is files new)) (record {
-          count = start_names print_of by access start path [] [] refl ∙ ap (count_of names_file) (append-nil (reverse more));
+          count = start_names print_of by access made start path [] [] refl ∙ ap (count_of names_file) (append-nil (reverse more));
           each = start_paths (λ name. item_of (es ++ e ∷ []) name ≡ Some (length files)) path start [] tt here;
         }))
         named i (inr q) l = subst (IsNamed (es ++ e ∷ []) i) (sym (before_is files new i q)) (record {

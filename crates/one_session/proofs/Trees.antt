@@ -1,6 +1,6 @@
 -- What the tree's history tells after one entry more.
-use Rattle.std.proofs.Common.{◌≡◌, ◌⊎◌, ◌<◌, ◌≤◌, ℕ, ◌+◌, ◌++◌, ◌∙◌, ◌||◌, ap, sym, refl, subst, inl, inr, arith, Bool, true, false, Option, None, Some, List, [], ◌∷◌, length, reverse, cond, nat_lt, append-nil}
-use Rattle.std.specs.List.{count_by, sum_by, list_any}
+use Rattle.std.proofs.Common.{◌≡◌, ℕ, ◌+◌, ◌++◌, ◌∙◌, ◌||◌, ap, refl, inl, inr, arith, Bool, false, Option, None, Some, List, [], ◌∷◌, cond, nat_lt, append-nil}
+use Rattle.std.specs.List.{count_by, sum_by}
 use Rattle.std.proofs.lemmas.List.{reverse-append}
 use Rattle.std.proofs.lemmas.List.Folds.{list_any-append}
 use Rattle.std.proofs.lemmas.List.Sums.{sum_by-append}
@@ -13,7 +13,6 @@ use Rattle.vfs_outside.specs.declared.listing.Listing.{Listing}
 use Rattle.vfs_outside.specs.declared.tree.TreeEntry.{TreeEntry}
 use Rattle.vfs_outside.specs.declared.tree.TreeKind.{TreeKind}
 use Rattle.vfs_outside.specs.declared.tree.TreeKind.TheVariants as tree
-use Rattle.shown_rows.specs.declared.Shown.{Shown}
 use Rattle.one_session.specs.Calls.{ListsOnce, in_tree}
 use Rattle.one_session.specs.Tree.{closed_in, closes_item, files_after, files_back, files_of, is_close, is_held, is_held_at, is_held_in, is_listed, is_open, item_after, item_back, item_of, left_after, left_back, left_dirty, lists_root, opened_in, opens_item, shown, shown_after, shown_back}
 

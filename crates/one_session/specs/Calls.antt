@@ -21,8 +21,6 @@ use Rattle.item_core.specs.History.{held_by, is_dirty, size_of}
 use Rattle.item_core.specs.Content.{Known}
 use Rattle.item_core.specs.Answer.{answer_of, bytes}
 use Rattle.item_core.specs.Log.{used}
-use Rattle.memory_item.specs.Item.{in_file}
-use Rattle.memory_item.specs.Known.{SaysWritten}
 use Rattle.session_script.specs.declared.call.Call.{Call}
 use Rattle.session_script.specs.declared.call.Call.TheVariants as call
 use Rattle.session_text.specs.declared.reply.Record.{Record}
@@ -36,6 +34,10 @@ use Rattle.one_session.specs.declared.handle.Handle.{Handle}
 -- an entry of the tree
 abbrev pub in_tree : By → TreeKind → TreeEntry
 in_tree by kind = record { by = by; kind = kind }
+
+-- an entry of a file, under the tree's lock as well or not, made when so many calls had been made on its slot's file
+abbrev pub in_file : By → Bool → ℕ → FileKind → Entry
+in_file by under at kind = record { by = record by { tree = under }; at = at; kind = kind }
 
 -- a call is answered so, with no places
 pub record IsBare (r : Record) (answer : Reply) : Type 0 where
@@ -56,20 +58,25 @@ IsIn opened r = IsSomeAnd r.file (λ f. item_at opened ≡ Some f.0.0)
 abbrev pub AnswersOpen : Option Handle → Record → Type 0
 AnswersOpen opened r =
     ((r.reply ≡ reply.Done) × (opened ≡ None) × IsSome r.tree × IsSome r.file)
-    ⊎ ((IsRefused r why.NotFound ⊎ IsRefused r why.IsDir ⊎ IsRefused r why.RemoteFault ⊎ IsRefused r why.TooBig) × (opened ≡ None) × IsSome r.tree)
+    ⊎ ((IsRefused r why.NotFound ⊎ IsRefused r why.IsDir ⊎ IsRefused r why.RemoteFault ⊎ IsRefused r why.TooBig ⊎ IsRefused r why.DiskFault) × (opened ≡ None) × IsSome r.tree)
     ⊎ (IsBare r (reply.Refused why.BadHandle) × IsSome opened)
     ⊎ IsBare r (reply.Refused why.HistoryFull)
     ⊎ (IsRefused r why.NoMemory × (opened ≡ None))
 
--- a refusal for the object of a file
-abbrev pub IsOfObject : Refusal → Type 0
-IsOfObject refusal = (refusal ≡ why.RemoteFault) ⊎ ((held : Fingerprint) × (found : Found) × (refusal ≡ why.Stale held found))
+-- a refusal for what lies outside: the object of a file, or the cache disk
+abbrev pub IsOfDevice : Refusal → Type 0
+IsOfDevice refusal = (refusal ≡ why.RemoteFault) ⊎ (refusal ≡ why.DiskFault)
+    ⊎ ((held : Fingerprint) × (found : Found) × (refusal ≡ why.Stale held found))
 
--- how a read is answered: bytes, or a refusal for the object, with a place in the file of its handle; or refused bare
+-- a call is refused for the cache disk, with a place in the file of its handle
+abbrev pub IsRefusedInFile : Option Handle → Record → Type 0
+IsRefusedInFile opened r = (r.reply ≡ reply.Refused why.DiskFault) × IsIn opened r × (r.tree ≡ None)
+
+-- how a read is answered: bytes, or a refusal for the object or the disk, with a place in the file of its handle; or refused bare
 abbrev pub AnswersRead : Option Handle → ℕ → Record → Type 0
 AnswersRead opened len r =
     (((found : List ℕ) × (r.reply ≡ reply.Bytes found)) × IsIn opened r × (r.tree ≡ None))
-    ⊎ (((refusal : Refusal) × (r.reply ≡ reply.Refused refusal) × IsOfObject refusal) × IsIn opened r × (r.tree ≡ None))
+    ⊎ (((refusal : Refusal) × (r.reply ≡ reply.Refused refusal) × IsOfDevice refusal) × IsIn opened r × (r.tree ≡ None))
     ⊎ (IsBare r (reply.Refused why.BadHandle) × (opened ≡ None))
     ⊎ (IsBare r (reply.Refused why.TooBig) × IsSome opened × (131072 < len))
     ⊎ IsBare r (reply.Refused why.HistoryFull)
@@ -78,9 +85,20 @@ AnswersRead opened len r =
 abbrev pub AnswersWrite : Option Handle → ℕ → Payload → Record → Type 0
 AnswersWrite opened pos payload r =
     ((r.reply ≡ reply.Wrote (payload_len payload)) × IsIn opened r × (r.tree ≡ None))
+    ⊎ IsRefusedInFile opened r
     ⊎ (IsBare r (reply.Refused why.BadHandle) × (opened ≡ None))
     ⊎ (IsBare r (reply.Refused why.NotWritable) × IsSomeAnd opened (λ h. h.access ≡ access.Read))
     ⊎ (IsBare r (reply.Refused why.TooBig) × IsSome opened × ((131072 < payload_len payload) ⊎ (2 ^ 40 < pos + payload_len payload)))
+    ⊎ IsBare r (reply.Refused why.HistoryFull)
+    ⊎ IsBare r (reply.Refused why.NoMemory)
+
+abbrev pub AnswersSize : Option Handle → ℕ → Record → Type 0
+AnswersSize opened size r =
+    ((r.reply ≡ reply.Done) × IsIn opened r × (r.tree ≡ None))
+    ⊎ IsRefusedInFile opened r
+    ⊎ (IsBare r (reply.Refused why.BadHandle) × (opened ≡ None))
+    ⊎ (IsBare r (reply.Refused why.NotWritable) × IsSomeAnd opened (λ h. h.access ≡ access.Read))
+    ⊎ (IsBare r (reply.Refused why.TooBig) × IsSome opened × (2 ^ 40 < size))
     ⊎ IsBare r (reply.Refused why.HistoryFull)
     ⊎ IsBare r (reply.Refused why.NoMemory)
 
@@ -94,6 +112,7 @@ abbrev pub Answers : (ℕ → Option Handle) → Call → Record → Type 0
 Answers opened (call.Open h path how) r = AnswersOpen (opened h) r
 Answers opened (call.Read h pos len) r = AnswersRead (opened h) len r
 Answers opened (call.Write h pos payload) r = AnswersWrite (opened h) pos payload r
+Answers opened (call.Size h size) r = AnswersSize (opened h) size r
 Answers opened (call.Close h) r = AnswersClose (opened h) r
 Answers opened _ r = ⊥
 
@@ -150,6 +169,10 @@ abbrev pub OpensFile : By → List History → List ℕ → How → Record → L
 OpensFile by files path how r before added = IsSomeAnd r.file (λ f. (own : TreeKind) × (print : Option Fingerprint)
     × WasHeld files f.0.0 f.1 print × AfterLook by before added (in_tree by own ∷ []) (OpensPath how path f.0.0 print own))
 
+-- an object or nothing is there, of which an open begins a file
+abbrev pub MayBegin : List ℕ → How → List TreeEntry → Type 0
+MayBegin path how seen = ShowsObject path seen ⊎ (ShowsNothing path seen × (how.create ≡ true))
+
 -- an open that finds nothing: the root can't be listed, or shows nothing, or an object that it shows is gone
 abbrev pub MissesPath : By → List ℕ → How → List TreeEntry → List TreeEntry → Type 0
 MissesPath by path how before added =
@@ -171,7 +194,8 @@ OpenAdds by files path how r before added =
     ⊎ ((r.reply ≡ reply.Refused why.RemoteFault) × FailsAt by path before added)
     ⊎ ((r.reply ≡ reply.Refused why.IsDir) × AfterLook by before added (refused_open by path why.IsDir ∷ []) (ShowsDir path))
     ⊎ ((r.reply ≡ reply.Refused why.TooBig) × AfterLook by before added (refused_open by path why.TooBig ∷ []) (ShowsObject path))
-    ⊎ ((r.reply ≡ reply.Refused why.NoMemory) × AfterLook by before added [] (ShowsObject path))
+    ⊎ ((r.reply ≡ reply.Refused why.DiskFault) × AfterLook by before added (refused_open by path why.DiskFault ∷ []) (MayBegin path how))
+    ⊎ ((r.reply ≡ reply.Refused why.NoMemory) × AfterLook by before added [] (MayBegin path how))
 
 -- the file was dirty before the entry at a place
 pub record WasDirty (files : List History) (item k : ℕ) (dirty : Bool) : Type 0 where
@@ -195,23 +219,32 @@ Begins front = (front ≡ []) ⊎ (front ≡ file.Create ∷ [])
     ⊎ ((print : Fingerprint) × (front ≡ file.Bind print ∷ [])) ⊎ ((print : Fingerprint) × (front ≡ file.Adopt print ∷ []))
 
 abbrev pub OpensAs : By → How → List Entry → Type 0
-OpensAs by how added = (front : List FileKind) × Begins front × (added ≡ map (in_file by true) (front ++ file.Opened how.access ∷ []))
+OpensAs by how added = (at : ℕ) × (front : List FileKind) × Begins front
+    × (added ≡ map (in_file by true at) (front ++ file.Opened how.access ∷ []))
 
 -- each byte that is read is the latest write's, else that of the object that the file holds, for every map of contents that
--- holds what was handed out; and it is the latest write's whatever the objects hold
+-- holds what was handed out
 pub record ReadsLatest (holds : Known → Type 0) (before : List Entry) (pos len : ℕ) (found : List ℕ) : Type 0 where
   pub count : length found ≡ min len (size_of (reverse before) - pos)
   pub latest : (known : Known) → holds known → answer_of known (reverse before) (file.Read pos len) ≡ bytes found
-  pub written : SaysWritten (reverse before) pos found
+
+-- a call adds one entry to a file, as the entry of what was done or of why it was refused
+abbrev pub AddsOne : By → Bool → FileKind → List Entry → Type 0
+AddsOne by under kind added = (at : ℕ) × (added ≡ in_file by under at kind ∷ [])
 
 -- what a call adds to the file of its handle, or that it opens
 abbrev pub FileDoes : (Known → Type 0) → By → Call → Record → List Entry → List Entry → Type 0
 FileDoes holds by (call.Open h path how) r before added = (r.reply ≡ reply.Done) × OpensAs by how added
 FileDoes holds by (call.Read h pos len) r before added =
-    (((found : List ℕ) × (r.reply ≡ reply.Bytes found) × ReadsLatest holds before pos len found) × (added ≡ in_file by false (file.Read pos len) ∷ []))
-    ⊎ ((refusal : Refusal) × (r.reply ≡ reply.Refused refusal) × IsOfObject refusal × (added ≡ in_file by false (file.Refused verb.Read refusal) ∷ []))
-FileDoes holds by (call.Write h pos payload) r before added = (r.reply ≡ reply.Wrote (payload_len payload)) × (added ≡ in_file by false (file.Write pos payload) ∷ [])
-FileDoes holds by (call.Close h) r before added = (r.reply ≡ reply.Done) × (added ≡ in_file by true file.Closed ∷ [])
+    (((found : List ℕ) × (r.reply ≡ reply.Bytes found) × ReadsLatest holds before pos len found) × AddsOne by false (file.Read pos len) added)
+    ⊎ ((refusal : Refusal) × (r.reply ≡ reply.Refused refusal) × IsOfDevice refusal × AddsOne by false (file.Refused verb.Read refusal) added)
+FileDoes holds by (call.Write h pos payload) r before added =
+    ((r.reply ≡ reply.Wrote (payload_len payload)) × AddsOne by false (file.Write pos payload) added)
+    ⊎ ((r.reply ≡ reply.Refused why.DiskFault) × AddsOne by false (file.Refused verb.Write why.DiskFault) added)
+FileDoes holds by (call.Size h size) r before added =
+    ((r.reply ≡ reply.Done) × AddsOne by false (file.SetSize size) added)
+    ⊎ ((r.reply ≡ reply.Refused why.DiskFault) × AddsOne by false (file.Refused verb.Size why.DiskFault) added)
+FileDoes holds by (call.Close h) r before added = (r.reply ≡ reply.Done) × AddsOne by true file.Closed added
 FileDoes holds by _ r before added = ⊥
 
 -- the places of a file, its oldest entry first, that are free below a limit: open handles and begun uploads keep one each
@@ -219,10 +252,11 @@ abbrev pub free_in : ℕ → List Entry → ℕ
 free_in limit entries = limit - used (reverse entries)
 
 -- Too few places are free for what a call may add. An open of one name needs 5 of the tree, and 4 of the file that the
--- path has; a read or write needs one of its file; a close has its own.
+-- path has; a read, a write or a set size needs one of its file; a close has its own.
 abbrev pub IsFull : ℕ → List TreeEntry → (ℕ → List Entry) → (ℕ → Option Handle) → Call → Type 0
 IsFull limit tree file opened (call.Open h path how) =
     (free_places limit tree < 5) ⊎ ((item : ℕ) × (item_of tree path ≡ Some item) × (free_in limit (file item) < 4))
 IsFull limit tree file opened (call.Read h pos len) = (item : ℕ) × (item_at (opened h) ≡ Some item) × (free_in limit (file item) < 1)
 IsFull limit tree file opened (call.Write h pos payload) = (item : ℕ) × (item_at (opened h) ≡ Some item) × (free_in limit (file item) < 1)
+IsFull limit tree file opened (call.Size h size) = (item : ℕ) × (item_at (opened h) ≡ Some item) × (free_in limit (file item) < 1)
 IsFull limit tree file opened _ = ⊥

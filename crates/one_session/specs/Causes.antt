@@ -3,7 +3,6 @@ use Rattle.std.specs.Prelude.{◌≡◌, ◌⊎◌, ◌<◌, ◌≤◌, ◌^◌,
 use Rattle.std.specs.List.{AllByRecursion}
 use Rattle.vfs_names.specs.Path.{same_text}
 use Rattle.vfs_names.specs.declared.fingerprint.Fingerprint.{Fingerprint}
-use Rattle.vfs_names.specs.declared.refusal.Refusal.{Refusal}
 use Rattle.vfs_names.specs.declared.refusal.Refusal.TheVariants as why
 use Rattle.vfs_outside.specs.Causes.{Rose}
 use Rattle.vfs_outside.specs.Outside.{Outside}
@@ -11,18 +10,12 @@ use Rattle.vfs_outside.specs.declared.tree.TreeEntry.{TreeEntry}
 use Rattle.vfs_outside.specs.declared.tree.TreeKind.{TreeKind}
 use Rattle.vfs_outside.specs.declared.tree.TreeKind.TheVariants.{Gone}
 use Rattle.item_core.specs.Content.{Known}
-use Rattle.memory_item.specs.Answers.{IsObjectCause}
-use Rattle.memory_item.specs.Item.{Behind}
-use Rattle.memory_item.specs.Known.{Holds}
+use Rattle.item_image.specs.Premise.{Holds}
 use Rattle.session_script.specs.declared.call.Call.{Call}
 use Rattle.session_script.specs.declared.call.Call.TheVariants as call
 use Rattle.session_text.specs.declared.reply.Record.{Record}
 use Rattle.session_text.specs.declared.reply.Reply.TheVariants as reply
-use Rattle.one_session.specs.Calls.{IsOfObject}
-use Rattle.one_session.specs.Served.{Served, open_at}
-use Rattle.one_session.specs.State.{State, Step, behind_in, file_at}
 use Rattle.one_session.specs.Tree.{shown}
-use Rattle.one_session.specs.declared.handle.Handle.{Handle}
 
 -- the newest entry says that the object at the path is gone
 abbrev pub is_gone : TreeKind → List ℕ → Bool
@@ -65,36 +58,6 @@ pub record HasRemoteCause (call : Call) (done : Record) (tree : List TreeEntry) 
   pub more : List (Fingerprint × List ℕ)
   pub handed : new.handed ≡ more ++ old.handed
   pub cause : CauseOf call done tree old new
-
--- A read that is refused for the object of its file: the object failed in this call; or it was found to be another one, in
--- this call or before, and is the one that the file holds.
-pub record HasObjectCause (handle : Option Handle) (why : Refusal) (step : Step) : Type 0 where
-  pub opened : Handle
-  pub is : handle ≡ Some opened
-  pub before : Behind
-  pub after : Behind
-  pub had : behind_in step.before opened.item ≡ Some before
-  pub has_now : behind_in step.after opened.item ≡ Some after
-  pub cause : IsObjectCause before after why
-
--- the same of a call, by what each handle had open
-abbrev pub ReadCause : Call → Record → (ℕ → Option Handle) → Step → Type 0
-ReadCause (call.Read h pos len) done opened step = (why : Refusal) → done.reply ≡ reply.Refused why → IsOfObject why → HasObjectCause (opened h) why step
-ReadCause _ done opened step = Unit {0}
-
--- a call more was a step from the objects that it found to those that it left, in which a refused read has its cause
-pub record TakesStep (call : Call) (done : Record) (s t : State) : Type 0 where
-  pub added : t.steps ≡ s.steps ++ record { before = s.behind; after = t.behind } ∷ []
-  pub cause : ReadCause call done (file_at s.table) (record { before = s.behind; after = t.behind })
-
--- What some calls, the newest first, did to the objects: each found those that the one before it left, the first none, the
--- newest left these, and in each a refused read has its cause.
-abbrev pub AreSteps : List (Option Behind) → List Served → List Step → Type 0
-AreSteps left [] [] = left ≡ []
-AreSteps left [] (step ∷ earlier) = ⊥
-AreSteps left (d ∷ older) [] = ⊥
-AreSteps left (d ∷ older) (step ∷ earlier) =
-    (step.after ≡ left) × ReadCause d.line.call d.done (open_at older) step × AreSteps step.before older earlier
 
 -- a map of contents that holds what the store handed out holds what each file was given
 abbrev pub AreGiven : Type 0 → List (Fingerprint × List ℕ) → List (List (Fingerprint × List ℕ)) → Type 0

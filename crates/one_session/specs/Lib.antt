@@ -1,3 +1,4 @@
+pub mod Books
 pub mod Calls
 pub mod Causes
 pub mod Did
@@ -5,10 +6,12 @@ pub mod Logs
 pub mod Looking
 pub mod Matching
 pub mod Served
+pub mod Slots
 pub mod Sound
 pub mod Standing
 pub mod Start
 pub mod State
+pub mod Steps
 pub mod Tree
 pub mod TreeFacts
 pub mod Views

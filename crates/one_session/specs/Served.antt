@@ -8,7 +8,7 @@ use Rattle.vfs_names.specs.declared.who.By.{By}
 use Rattle.vfs_names.specs.declared.who.ItemId.{ItemId}
 use Rattle.vfs_outside.specs.declared.tree.TreeEntry.{TreeEntry}
 use Rattle.item_core.specs.Content.{Known}
-use Rattle.memory_item.specs.Known.{Holds}
+use Rattle.item_image.specs.Premise.{Holds}
 use Rattle.item_core.specs.declared.entry.Entry.{Entry}
 use Rattle.session_script.specs.declared.call.Call.{Call}
 use Rattle.session_script.specs.declared.call.Call.TheVariants as call
@@ -128,19 +128,24 @@ pub record Fits (session : ℕ) (holds : Known → Type 0) (served : List Served
   pub tree_end : reached tree_place served ≡ length s.tree
   pub file_end : (item : ℕ) → reached (file_place item) served ≡ length (entries_in s.files item)
 
+-- the cache tells its data, and the contents are those of the objects that the store handed out, which tell them
+abbrev pub Knows : Type 0 → Type 0 → List (Fingerprint × List ℕ) → Known → Type 0
+Knows kept tells handed known = kept × Holds tells handed known
+
 -- one call more was served: it was recorded so, and the new state is what it and the older calls left, by the contents that
 -- hold what was handed out before it and after it
-pub record Serves (session : ℕ) (tells : Type 0) (before after : List (Fingerprint × List ℕ)) (by : By) (line : CallLine) (done : Record) (s t : State) : Type 0 where
-  pub fits : (older : List Served) → Fits session (Holds tells before) older s → Fits session (Holds tells after) (record { by = by; line = line; done = done } ∷ older) t
+pub record Serves (session : ℕ) (kept tells : Type 0) (before after : List (Fingerprint × List ℕ)) (by : By) (line : CallLine) (done : Record) (s t : State) : Type 0 where
+  pub fits : (older : List Served) → Fits session (Knows kept tells before) older s → Fits session (Knows kept tells after) (record { by = by; line = line; done = done } ∷ older) t
   pub records : t.records ≡ s.records ++ done ∷ []
   pub limit : t.limit ≡ s.limit
   pub more : List TreeEntry
   pub grew : t.tree ≡ s.tree ++ more
 
--- the calls that can be served: an open to read, or to read and write, a read, a write and a close
+-- the calls that can be served: an open of a path that isn't the root, to read, or to read and write, a read, a write, a set size and a close
 abbrev pub IsServable : Call → Type 0
-IsServable (call.Open h path how) = how.access ≢ access.Write
+IsServable (call.Open h path how) = (how.access ≢ access.Write) × (path ≢ [])
 IsServable (call.Read h pos len) = Unit {0}
 IsServable (call.Write h pos payload) = Unit {0}
+IsServable (call.Size h size) = Unit {0}
 IsServable (call.Close h) = Unit {0}
 IsServable _ = ⊥

@@ -5,7 +5,7 @@ use Rattle.vfs_names.specs.Path.{same_text}
 use Rattle.vfs_outside.specs.declared.tree.TreeEntry.{TreeEntry}
 use Rattle.item_core.specs.declared.entry.Entry.{Entry}
 use Rattle.item_core.specs.Effects.{is_opened, is_closed}
-use Rattle.item_core.specs.History.{at_of, count_of, is_dirty, is_kept, made_by, opens_of}
+use Rattle.item_core.specs.History.{count_of, is_dirty, is_kept, made_by, opens_of}
 use Rattle.item_core.specs.Legal.{IsTimely}
 use Rattle.one_session.specs.Matching.{entries_of}
 use Rattle.one_session.specs.Served.{in_file_of, in_tree_of}
@@ -23,9 +23,8 @@ abbrev pub has_some : Option Handle → Bool
 has_some None = false
 has_some (Some handle) = true
 
--- nothing was called on a cache file, and the session made the history, in the order of time
+-- the session made the history, in the order of time
 pub record IsOwnPast (past : List Entry) : Type 0 where
-  pub still : at_of past ≡ 0
   pub pass : made_by 0 past ≡ past
   pub alone : entries_of in_file_of 1 (reverse past) ≡ reverse past
   pub timely : IsTimely past

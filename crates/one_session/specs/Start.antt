@@ -10,7 +10,7 @@ use Rattle.item_core.specs.Legal.{holds}
 use Rattle.item_core.specs.declared.entry.Entry.{Entry}
 use Rattle.item_core.specs.declared.entry.FileKind.{FileKind}
 use Rattle.item_core.specs.declared.entry.FileKind.TheVariants as file
-use Rattle.memory_item.specs.Item.{in_file}
+use Rattle.one_session.specs.Calls.{in_file}
 use Rattle.one_session.specs.declared.start.Start.{Start}
 use Rattle.one_session.specs.declared.start.Start.TheVariants.{Kept, Create, Bind, Adopt}
 
@@ -50,9 +50,9 @@ is_create Create = true
 is_create (Bind object) = false
 is_create (Adopt object) = false
 
--- the entries of an open that begins so
-abbrev pub opening : By → Access → List FileKind → List Entry
-opening by access front = map (in_file by true) (front ++ file.Opened access ∷ [])
+-- the entries of an open that begins so, with the number of calls on the slot's file that there were then
+abbrev pub opening : By → Access → ℕ → List FileKind → List Entry
+opening by access at front = map (in_file by true at) (front ++ file.Opened access ∷ [])
 
 -- the tree's entry for an open, where the file holds this object
 abbrev pub opened_kind : Bool → List ℕ → ℕ → Option Fingerprint → TreeKind

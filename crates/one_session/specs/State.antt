@@ -1,8 +1,7 @@
 -- What a session's calls leave: the histories, the handles and the records.
-use Rattle.std.specs.Prelude.{ℕ, Option, None, Some, List, [], slice_index_or}
-use Rattle.vfs_names.specs.declared.fingerprint.Fingerprint.{Fingerprint}
+use Rattle.std.specs.Prelude.{ℕ, false, Option, None, Some, List, [], slice_index_or}
 use Rattle.item_core.specs.declared.entry.Entry.{Entry}
-use Rattle.memory_item.specs.Item.{Behind}
+use Rattle.sparse_item.specs.Item.{Item, no_base}
 use Rattle.session_text.specs.declared.reply.Record.{Record}
 use Rattle.vfs_outside.specs.declared.tree.TreeEntry.{TreeEntry}
 use Rattle.one_session.specs.declared.handle.Handle.{Handle}
@@ -22,23 +21,36 @@ entries_in files item = (history_in files item).entries
 abbrev pub names_in : List History → ℕ → List (List ℕ)
 names_in files item = (history_in files item).names
 
--- the object behind a file
-abbrev pub behind_in : List (Option Behind) → ℕ → Option Behind
-behind_in behind item = slice_index_or behind item None
+-- a file with nothing in it
+abbrev pub blank : Item
+blank = record {
+  id = record { 0 = 0 };
+  slot_id = record { 0 = 0 };
+  log = record { past = []; limit = 0; spare = 0 };
+  names = [];
+  pairs = [];
+  base = no_base;
+  here = [];
+  pending = false;
+  slot = record { told = record { first = []; since = [] }; calls = 0; faults = 0 };
+  saved = record { mtime = 0; atime = 0 };
+}
 
--- the objects behind the files, by number, before a call and after it
+abbrev pub item_in : List Item → ℕ → Item
+item_in items item = slice_index_or items item blank
+
+-- all that is kept of the files, by number, before a call and after it
 pub record Step : Type 0 where
-  pub before : List (Option Behind)
-  pub after : List (Option Behind)
+  pub before : List Item
+  pub after : List Item
 
--- The tree's history; the files' histories by number; the object behind each file, and the fingerprints and bytes of the
--- objects that each was given; the most places that each history may have; what each handle has open; the records, oldest
--- first, beside each what its call did to the objects, and for how many more records there is room.
+-- The tree's history; the files' histories by number, and all that is kept of each file; the most places that each history
+-- may have; what each handle has open; the records, oldest first, beside each the files before its call and after it, and
+-- for how many more records there is room.
 pub record State : Type 0 where
   pub tree : List TreeEntry
   pub files : List History
-  pub behind : List (Option Behind)
-  pub pairs : List (List (Fingerprint × List ℕ))
+  pub items : List Item
   pub limit : ℕ
   pub table : List (Option Handle)
   pub records : List Record

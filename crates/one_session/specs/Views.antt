@@ -1,14 +1,15 @@
 -- What the parts of a session's state are seen as.
-use Rattle.std.specs.Prelude.{ℕ, ◌++◌, Option, None, List, [], map, reverse, set, slice_index_or}
+use Rattle.std.specs.Prelude.{ℕ, ◌++◌, Option, None, List, map, reverse, set}
 use Rattle.vfs_names.specs.declared.fingerprint.Fingerprint.{Fingerprint}
 use Rattle.vfs_names.specs.declared.refusal.Refusal.{Refusal}
 use Rattle.vfs_names.specs.declared.refusal.Refusal.TheVariants as why
 use Rattle.vfs_names.specs.declared.who.ItemId.{ItemId}
 use Rattle.item_core.specs.declared.entry.Entry.{Entry}
-use Rattle.memory_item.specs.Item.{Behind, Item}
+use Rattle.sparse_item.specs.Item.{Item}
 use Rattle.vfs_outside.specs.declared.tree.TreeEntry.{TreeEntry}
 use Rattle.vfs_outside.specs.declared.tree.TreeKind.{TreeKind}
 use Rattle.vfs_outside.specs.declared.tree.TreeKind.TheVariants.{Created, Opened, Closed}
+pub use Rattle.one_session.specs.State.{blank, item_in}
 use Rattle.one_session.specs.State.{History, entries_in, names_in}
 
 -- the tree's entries, the oldest first; the most places that there may be; and the places for which room is made, those
@@ -38,29 +39,20 @@ pub record Shelf : Type 0 where
 
 -- a file's history in the order in which it is stored
 abbrev pub stored : Item → History
-stored item = record { entries = reverse item.log.past; names = item.names }
+stored item = record { entries = reverse item.log.past; names = reverse item.names }
 
 abbrev pub histories : List Item → List History
 histories items = map stored items
 
-abbrev pub behind_all : List Item → List (Option Behind)
-behind_all items = map (λ (item : Item). item.behind) items
-
 abbrev pub given_all : List Item → List (List (Fingerprint × List ℕ))
 given_all items = map (λ (item : Item). item.pairs) items
 
--- the place in a file of a read that is refused so: one for the object says so there
+-- the place in a file of a call that is refused so: one for the object or the disk says so there
 abbrev pub refused_place : Refusal → Option (ItemId × ℕ) → Option (ItemId × ℕ)
 refused_place why.RemoteFault place = place
+refused_place why.DiskFault place = place
 refused_place (why.Stale held found) place = place
 refused_place _ place = None
-
--- a file with nothing in it
-abbrev pub blank : Item
-blank = record { log = record { past = []; limit = 0; spare = 0 }; names = []; pairs = []; behind = None; here = []; spare = 0 }
-
-abbrev pub item_in : List Item → ℕ → Item
-item_in items item = slice_index_or items item blank
 
 -- the files with these entries more in one of them, and these paths beside them
 abbrev pub add_to : List History → ℕ → List Entry → List (List ℕ) → List History

@@ -1,38 +1,41 @@
-ghost use Rattle.std.specs.Prelude.{◌≡◌, ◌⊎◌, ◌<◌, ◌≤◌, ◌+◌, ◌-◌, ◌^◌, ◌↔◌, ◌++◌, ◌||◌, ℕ, [], ◌∷◌, true, false, nat_lt, length, map, reverse, min, set, OnOk, OnErr, IfOk, IfErr, vec_len, vec_capacity};
+ghost use Rattle.std.specs.Prelude.{◌≡◌, ◌≢◌, ◌⊎◌, ◌<◌, ◌≤◌, ◌+◌, ◌-◌, ◌^◌, ◌↔◌, ◌++◌, ◌||◌, ℕ, [], ◌∷◌, true, false, nat_lt, length, map, reverse, OnOk, IfOk, IfErr, OnErr, vec_len, vec_capacity};
+ghost use Rattle.downloaders.specs.Rules.{HasChunk};
+ghost use Rattle.item_core.specs.History.{held_by, is_dirty, is_kept, opens_by, opens_of};
+ghost use Rattle.item_core.specs.Log.{free};
+ghost use Rattle.one_session.specs.Books.{ClosesBook, OpensBook, ReadsBook, SizesBook, TouchesOne, WritesBook};
 ghost use Rattle.std.specs.List.{AllByRecursion};
-ghost use Rattle.vfs_names.specs.Payload.{payload_len};
-ghost use Rattle.item_core.specs.declared.entry.FileKind.TheVariants as kinds;
-ghost use Rattle.item_core.specs.Content.{Known, bytes_at};
-ghost use Rattle.item_core.specs.History.{at_of, held_by, is_dirty, is_kept, opens_by, opens_of, size_of};
 ghost use Rattle.item_core.specs.Legal.{IsLegal};
-ghost use Rattle.memory_item.specs.Answers.{IsRefusedByObject, refused_read};
-ghost use Rattle.memory_item.specs.Item.{in_file, is_bound};
-ghost use Rattle.memory_item.specs.Known.{Holds, SaysWritten};
+ghost use Rattle.vfs_outside.specs.Disk.{SetsOut};
 ghost use Rattle.one_session.specs.Calls.{free_in};
 ghost use Rattle.one_session.specs.Logs.{history_of};
-ghost use Rattle.one_session.specs.Start.{MayStart, front_of, given_by, named_by, opening};
+ghost use Rattle.one_session.specs.Slots.{IsSoundItem, ItemStands, Lends};
+ghost use Rattle.one_session.specs.Start.{MayStart, front_of, given_by, named_by};
 ghost use Rattle.one_session.specs.State.{History, entries_in};
-ghost use Rattle.one_session.specs.Views.{add_to, behind_all, given_all, histories, item_in, stored};
+ghost use Rattle.one_session.specs.Views.{given_all, histories, item_in, stored};
+ghost use Rattle.sparse_item.specs.Sound.{is_begun};
 
+use crate::log::FileLog;
 use crate::start::{Start, begin};
-use memory_item::{FileLog, MemoryItem};
+use base_object::BaseState;
+use downloaders::Plan;
+use sparse_item::{ItemBook, Parts};
 use std::alloc::Global;
 use std::marker::Model;
-use vfs_names::{Access, Blob, By, Fingerprint, NoMemory, Payload, Refusal, VPath};
-use vfs_outside::Object;
+use vfs_names::{Access, At, Blob, By, Fingerprint, NoMemory, Payload, Refusal, VPath};
+use vfs_outside::{CacheDisk, CacheFile, Object};
 
 /// The files of the session, by number. Contracts see what each tells.
 #[derive(Drop)]
-pub(crate) struct Files<O: Object> {
-    files: Vec<MemoryItem<O>>,
-    logs: Vec<FileLog>,
+pub(crate) struct Files<O: Object, F: CacheFile> {
+    pub(crate) files: Vec<ItemBook<O, F>>,
+    pub(crate) logs: Vec<FileLog>,
     limit: u32,
 }
 
-impl<O: Object> Model for Files<O> {
+impl<O: Object, F: CacheFile> Model for Files<O, F> {
     ghost use Rattle.std.specs.Prelude.{◌≡◌, ◌≤◌, ◌-◌, [], min, vec_len, vec_capacity};
     ghost use Rattle.std.specs.List.{AllByRecursion};
-    ghost use Rattle.memory_item.specs.Item.{Item};
+    ghost use Rattle.sparse_item.specs.Item.{Item};
     ghost use Rattle.one_session.specs.Views.{Shelf};
 
     ghost Value = { Shelf };
@@ -47,9 +50,9 @@ impl<O: Object> Model for Files<O> {
         × AllByRecursion (λ (item : Item). item.log.limit ≡ f.limit) f.files.items };
 }
 
-impl<O: Object> Files<O> {
+impl<O: Object, F: CacheFile> Files<O, F> {
     /// No files. Each is to have at most `limit` places; takes no memory.
-    pub(crate) fn new(alloc: Global, limit: u32) -> Files<O>
+    pub(crate) fn new(alloc: Global, limit: u32) -> Files<O, F>
         ensures items { result.items ≡ [] }
         ensures limit { result.limit ≡ limit }
     {
@@ -65,6 +68,13 @@ impl<O: Object> Files<O> {
         ensures { result ≡ length self.now.items }
     {
         self.files.len()
+    }
+
+    /// The most places of a file.
+    pub(crate) fn limit(&self) -> u32
+        ensures { result ≡ self.now.limit }
+    {
+        self.limit
     }
 
     /// Makes room for one more file.
@@ -83,30 +93,8 @@ impl<O: Object> Files<O> {
         }
     }
 
-    /// A file with no entry yet, and room for those of its first open.
-    pub(crate) fn fresh(&self, alloc: Global) -> Result<MemoryItem<O>, Refusal>
-        ensures past { IfOk result (λ f. f.log.past ≡ []) }
-        ensures names { IfOk result (λ f. f.names ≡ []) }
-        ensures pairs { IfOk result (λ f. f.pairs ≡ []) }
-        ensures limit { IfOk result (λ f. f.log.limit ≡ self.now.limit) }
-        ensures room { IfOk result (λ f. 4 ≤ f.log.spare) }
-        ensures spare { IfOk result (λ f. 0 < f.spare) }
-        ensures full { (result ≡ Err Refusal.HistoryFull) → self.now.limit < 4 }
-        ensures causes { IfErr result (λ why. (why ≡ Refusal.HistoryFull)
-            ⊎ (why ≡ Refusal.NoMemory)) }
-    {
-        let mut file = MemoryItem::new(alloc, self.limit);
-        if let Err(why) = file.reserve(4) {
-            return Err(why);
-        }
-        match file.reserve_object() {
-            Ok(()) => Ok(file),
-            Err(NoMemory) => Err(Refusal::NoMemory),
-        }
-    }
-
     /// Puts a file at the end, for which room was made.
-    pub(crate) fn add(&mut self, file: MemoryItem<O>)
+    pub(crate) fn add(&mut self, file: ItemBook<O, F>)
         requires spare { 0 < self.old.spare }
         requires limit { file.log.limit ≡ self.old.limit }
         ensures items { self.new.items ≡ self.old.items ++ file ∷ [] }
@@ -115,141 +103,26 @@ impl<O: Object> Files<O> {
         self.files.push(file).unwrap();
     }
 
-    /// Makes room for `n` entries of a file, and for one more path and object.
+    /// Makes room for `n` entries of a file.
     pub(crate) fn reserve(&mut self, item: u32, n: u32) -> Result<(), Refusal>
         requires inside { item < length self.old.items }
         ensures room { OnOk result (n ≤ (item_in self.new.items item).log.spare) }
-        ensures spare { OnOk result (0 < (item_in self.new.items item).spare) }
+        ensures free { OnOk result (n ≤ free (item_in self.new.items item).log) }
         ensures files { histories self.new.items ≡ histories self.old.items }
-        ensures behind { behind_all self.new.items ≡ behind_all self.old.items }
         ensures given { given_all self.new.items ≡ given_all self.old.items }
-        ensures count { length self.new.items ≡ length self.old.items }
+        ensures one { TouchesOne item self.old.items self.new.items }
+        ensures same { item_in self.new.items item ≡ record (item_in self.old.items item) {
+          log = (item_in self.new.items item).log;
+        } }
+        ensures places { (item_in self.new.items item).log.limit
+            ≡ (item_in self.old.items item).log.limit }
         ensures limit { self.new.limit ≡ self.old.limit }
         ensures full { (result ≡ Err Refusal.HistoryFull)
             → free_in self.old.limit (entries_in (histories self.old.items) item) < n }
         ensures causes { IfErr result (λ why. (why ≡ Refusal.HistoryFull)
             ⊎ (why ≡ Refusal.NoMemory)) }
     {
-        let file = &mut self.files[item as usize];
-        if let Err(why) = file.reserve(n) {
-            return Err(why);
-        }
-        match file.reserve_object() {
-            Ok(()) => Ok(()),
-            Err(NoMemory) => Err(Refusal::NoMemory),
-        }
-    }
-}
-
-impl<O: Object> Files<O> {
-    /// Begins a file and opens it; takes no memory.
-    pub(crate) fn begin(&mut self, item: u32, by: By, path: VPath, start: Start<O>, access: Access)
-        requires inside { item < length self.old.items }
-        requires room { 3 ≤ (item_in self.old.items item).log.spare }
-        requires spare { 0 < (item_in self.old.items item).spare }
-        requires still { at_of (reverse (entries_in (histories self.old.items) item)) ≡ 0 }
-        requires may { MayStart O.print_of start
-            (reverse (entries_in (histories self.old.items) item)) }
-        ensures files { histories self.new.items ≡ add_to (histories self.old.items) item
-            (opening by access (front_of O.print_of start)) (named_by path start) }
-        ensures given { given_all self.new.items ≡ set (given_all self.old.items) item
-            (given_by O.print_of O.bytes start ++ (item_in self.old.items item).pairs) }
-        ensures count { length self.new.items ≡ length self.old.items }
-        ensures limit { self.new.limit ≡ self.old.limit }
-    {
-        begin(&mut self.files[item as usize], by, path, start, access);
-    }
-
-    /// Closes a handle of a file; takes no memory.
-    pub(crate) fn close_handle(&mut self, item: u32, by: By)
-        requires inside { item < length self.old.items }
-        requires open { 0 < opens_by by.pass
-            (reverse (entries_in (histories self.old.items) item)) }
-        requires still { at_of (reverse (entries_in (histories self.old.items) item)) ≡ 0 }
-        ensures files { histories self.new.items ≡ add_to (histories self.old.items) item
-            (in_file by true kinds.Closed ∷ []) [] }
-        ensures behind { behind_all self.new.items ≡ behind_all self.old.items }
-        ensures given { given_all self.new.items ≡ given_all self.old.items }
-        ensures limit { self.new.limit ≡ self.old.limit }
-    {
-        self.files[item as usize].close_handle(by);
-    }
-
-    /// The bytes of a file from `pos` to the lesser of `pos + len` and its size.
-    pub(crate) fn read(
-        &mut self,
-        alloc: Global,
-        item: u32,
-        by: By,
-        pos: u64,
-        len: u64,
-    ) -> Result<Blob, Refusal>
-        requires inside { item < length self.old.items }
-        requires len { len ≤ 131072 }
-        requires kept { is_kept (reverse (entries_in (histories self.old.items) item)) ≡ true }
-        requires open { 0 < opens_by by.pass
-            (reverse (entries_in (histories self.old.items) item)) }
-        requires still { at_of (reverse (entries_in (histories self.old.items) item)) ≡ 0 }
-        ensures ok { OnOk result (histories self.new.items ≡ add_to (histories self.old.items) item
-            (in_file by false (kinds.Read pos len) ∷ []) []) }
-        ensures count { IfOk result (λ found. length found ≡ min len
-            (size_of (reverse (entries_in (histories self.old.items) item)) - pos)) }
-        ensures bytes { IfOk result (λ found. (known : Known)
-            → Holds O.tells (item_in self.old.items item).pairs known
-            → found ≡ bytes_at known (reverse (entries_in (histories self.old.items) item)) pos
-            (min len (size_of (reverse (entries_in (histories self.old.items) item)) - pos))) }
-        ensures written { IfOk result
-            (SaysWritten (reverse (entries_in (histories self.old.items) item)) pos) }
-        ensures err { IfErr result (λ why. histories self.new.items
-            ≡ add_to (histories self.old.items) item (refused_read by why) []) }
-        ensures full { (result ≡ Err Refusal.HistoryFull)
-            ↔ (free_in self.old.limit (entries_in (histories self.old.items) item) < 1) }
-        ensures causes { IfErr result (λ why. (why ≡ Refusal.HistoryFull)
-            ⊎ (why ≡ Refusal.NoMemory)
-            ⊎ IsRefusedByObject (item_in self.old.items item) (item_in self.new.items item) pos len why) }
-        ensures given { given_all self.new.items ≡ given_all self.old.items }
-        ensures count_files { length self.new.items ≡ length self.old.items }
-        ensures limit { self.new.limit ≡ self.old.limit }
-    {
-        self.files[item as usize].read(alloc, by, pos, len)
-    }
-
-    /// Writes a payload into a file.
-    pub(crate) fn write(
-        &mut self,
-        alloc: Global,
-        item: u32,
-        by: By,
-        pos: u64,
-        payload: &Payload,
-    ) -> Result<(), Refusal>
-        requires inside { item < length self.old.items }
-        requires len { payload_len payload.now ≤ 131072 }
-        requires end { pos + payload_len payload.now ≤ 2 ^ 40 }
-        requires kept { is_kept (reverse (entries_in (histories self.old.items) item)) ≡ true }
-        requires open { 0 < opens_by by.pass
-            (reverse (entries_in (histories self.old.items) item)) }
-        requires still { at_of (reverse (entries_in (histories self.old.items) item)) ≡ 0 }
-        ensures ok { OnOk result (histories self.new.items ≡ add_to (histories self.old.items) item
-            (in_file by false (kinds.Write pos payload.now) ∷ []) []) }
-        ensures err { OnErr result (histories self.new.items ≡ histories self.old.items) }
-        ensures behind { behind_all self.new.items ≡ behind_all self.old.items }
-        ensures given { given_all self.new.items ≡ given_all self.old.items }
-        ensures limit { self.new.limit ≡ self.old.limit }
-        ensures full { (result ≡ Err Refusal.HistoryFull)
-            ↔ (free_in self.old.limit (entries_in (histories self.old.items) item) < 1) }
-        ensures causes { IfErr result (λ why. (why ≡ Refusal.HistoryFull)
-            ⊎ (why ≡ Refusal.NoMemory)) }
-    {
-        self.files[item as usize].write(alloc, by, pos, payload)
-    }
-
-    /// A file has content that no upload saved.
-    pub(crate) fn dirty(&self, item: u32) -> bool
-        requires inside { item < length self.now.items }
-        ensures { result ≡ is_dirty (reverse (entries_in (histories self.now.items) item)) }
-    {
-        self.files[item as usize].dirty()
+        self.files[item as usize].reserve(n)
     }
 
     /// A file has content that no upload saved, or an open handle.
@@ -272,9 +145,13 @@ impl<O: Object> Files<O> {
     /// The object that a file holds is there.
     pub(crate) fn is_bound(&self, item: u32) -> bool
         requires inside { item < length self.now.items }
-        ensures { result ≡ is_bound (item_in self.now.items item).behind }
     {
-        self.files[item as usize].is_bound()
+        match self.files[item as usize].base_state() {
+            BaseState::Bound(_) => true,
+            BaseState::Absent => false,
+            BaseState::Unbound(_) => false,
+            BaseState::Lost { .. } => false,
+        }
     }
 
     /// How many entries a file has.
@@ -284,29 +161,163 @@ impl<O: Object> Files<O> {
     {
         self.files[item as usize].len()
     }
+}
 
-    /// The histories, handed over; takes no memory.
-    pub(crate) fn into_logs(self) -> Vec<FileLog>
-        ensures files { map history_of result.items ≡ histories self.items }
-        ensures legal { AllByRecursion (λ (file : History). IsLegal
-            (reverse file.entries)) (histories self.items) }
+impl<O: Object, F: CacheFile> Files<O, F> {
+    /// Begins a file and opens it, for which four places were made.
+    pub(crate) fn begin(
+        &mut self,
+        item: u32,
+        by: By,
+        path: VPath,
+        start: Start<O>,
+        access: Access,
+    ) -> Result<(), Refusal>
+        requires inside { item < length self.old.items }
+        requires room { 4 ≤ (item_in self.old.items item).log.spare }
+        requires places { 4 ≤ free (item_in self.old.items item).log }
+        requires file { path ≢ [] }
+        requires may { MayStart O.print_of start (item_in self.old.items item).log.past }
+        requires begun { start ≡ Start.Kept → is_begun (item_in self.old.items item).log.past ≡ true }
+        ensures did { OpensBook F.tells by access (front_of O.print_of start) (named_by path start)
+            (given_by O.print_of O.bytes start) (item_in self.old.items item)
+            (item_in self.new.items item) result }
+        ensures one { TouchesOne item self.old.items self.new.items }
+        ensures limit { self.new.limit ≡ self.old.limit }
     {
-        let Files { files, logs, .. } = self;
-        logs_of(files, logs)
+        begin(&mut self.files[item as usize], by, path, start, access)
+    }
+
+    /// Closes a handle of a file; whether there still is content that no upload saved. Takes no memory.
+    pub(crate) fn close_handle(&mut self, item: u32, by: By) -> bool
+        requires inside { item < length self.old.items }
+        requires tree { by.tree ≡ true }
+        requires open { 0 < opens_by by.pass (item_in self.old.items item).log.past }
+        ensures dirty { result ≡ is_dirty (item_in self.old.items item).log.past }
+        ensures did { ClosesBook F.tells by (item_in self.old.items item)
+            (item_in self.new.items item) }
+        ensures one { TouchesOne item self.old.items self.new.items }
+        ensures limit { self.new.limit ≡ self.old.limit }
+    {
+        self.files[item as usize].close_handle(by)
+    }
+
+    /// The bytes of a file from `pos` to the lesser of `pos + len` and its size.
+    pub(crate) fn read(
+        &mut self,
+        plan: &Plan,
+        item: u32,
+        by: By,
+        pos: u64,
+        len: u64,
+    ) -> Result<Blob, Refusal>
+        requires inside { item < length self.old.items }
+        requires chunk { HasChunk plan.now.chunk }
+        requires open { 0 < opens_by by.pass (item_in self.old.items item).log.past }
+        ensures did { ReadsBook F.tells O.tells plan.now by pos len (item_in self.old.items item)
+            (item_in self.new.items item) result }
+        ensures one { TouchesOne item self.old.items self.new.items }
+        ensures limit { self.new.limit ≡ self.old.limit }
+    {
+        self.files[item as usize].read(plan, by, pos, len)
+    }
+
+    /// Writes a payload into a file; how many bytes.
+    pub(crate) fn write(
+        &mut self,
+        item: u32,
+        by: By,
+        pos: u64,
+        payload: Payload,
+    ) -> Result<u32, Refusal>
+        requires inside { item < length self.old.items }
+        requires open { 0 < opens_by by.pass (item_in self.old.items item).log.past }
+        ensures did { WritesBook F.tells by pos payload (item_in self.old.items item)
+            (item_in self.new.items item) result }
+        ensures one { TouchesOne item self.old.items self.new.items }
+        ensures limit { self.new.limit ≡ self.old.limit }
+    {
+        self.files[item as usize].write(by, At::Pos(pos), payload)
+    }
+
+    /// Sets the size of a file.
+    pub(crate) fn set_size(&mut self, item: u32, by: By, size: u64) -> Result<(), Refusal>
+        requires inside { item < length self.old.items }
+        requires kept { is_kept (item_in self.old.items item).log.past ≡ true }
+        requires open { 0 < opens_by by.pass (item_in self.old.items item).log.past }
+        ensures did { SizesBook F.tells by size (item_in self.old.items item)
+            (item_in self.new.items item) result }
+        ensures one { TouchesOne item self.old.items self.new.items }
+        ensures limit { self.new.limit ≡ self.old.limit }
+    {
+        self.files[item as usize].set_size(by, size)
     }
 }
 
-/// The histories of the files, in a list for which room was made.
-fn logs_of<O: Object>(files: Vec<MemoryItem<O>>, logs: Vec<FileLog>) -> Vec<FileLog>
+impl<O: Object, F: CacheFile> Files<O, F> {
+    /// The histories, handed over, and each file given back to its slot; takes no memory.
+    pub(crate) fn into_logs<D: CacheDisk<File = F>>(self, disk: &mut D) -> Vec<FileLog>
+        requires lends { Lends D.tells (length self.items) (D.disk disk.old) }
+        requires items { (n : ℕ) → n < length self.items
+            → IsSoundItem F.tells self.limit n (item_in self.items n) }
+        ensures files { map history_of result.items ≡ histories self.items }
+        ensures legal { AllByRecursion (λ (file : History). IsLegal
+            (reverse file.entries)) (histories self.items) }
+        ensures back { (slot : ℕ) → (D.disk disk.new).out slot ≡ false }
+        ensures faults { (D.disk disk.old).faults ≤ (D.disk disk.new).faults }
+        ensures images { D.tells → (n : ℕ) → n < length self.items → ItemStands O.tells
+            (item_in self.items n) ((D.disk disk.new).shelf n).now }
+    {
+        let Files { files, logs, .. } = self;
+        logs_of(files, logs, disk)
+    }
+}
+
+/// The histories of the files, in a list for which room was made; each file is given back to its slot.
+fn logs_of<O: Object, D: CacheDisk>(
+    files: Vec<ItemBook<O, D::File>>,
+    logs: Vec<FileLog>,
+    disk: &mut D,
+) -> Vec<FileLog>
     requires none { logs.items ≡ [] }
     requires room { vec_len files ≤ vec_capacity logs }
+    requires lends { Lends D.tells (length files.items) (D.disk disk.old) }
+    requires items { (limit : ℕ) × ((n : ℕ) → n < length files.items
+        → IsSoundItem D.File.tells limit n (item_in files.items n)) }
     ensures files { map history_of result.items ≡ map stored files.items }
     ensures legal { AllByRecursion (λ (file : History). IsLegal (reverse file.entries))
         (map stored files.items) }
+    ensures back { (slot : ℕ) → (D.disk disk.new).out slot ≡ false }
+    ensures faults { (D.disk disk.old).faults ≤ (D.disk disk.new).faults }
+    ensures images { D.tells → (n : ℕ) → n < length files.items → ItemStands O.tells
+        (item_in files.items n) ((D.disk disk.new).shelf n).now }
 {
     let mut logs = logs;
     for file in files {
-        logs.push(file.into_log()).unwrap();
+        logs.push(return_item(file, disk)).unwrap();
     }
     logs
+}
+
+/// The history of a file, which is given back to its slot.
+fn return_item<O: Object, D: CacheDisk>(file: ItemBook<O, D::File>, disk: &mut D) -> FileLog
+    requires out { (D.disk disk.old).out file.slot_id.0 ≡ true }
+    requires sound { (n : ℕ) × (limit : ℕ) × IsSoundItem D.File.tells limit n file }
+    ensures log { history_of result ≡ stored file }
+    ensures legal { IsLegal file.log.past }
+    ensures out { SetsOut file.slot_id.0 false (D.disk disk.old) (D.disk disk.new) }
+    ensures faults { (D.disk disk.old).faults ≤ (D.disk disk.new).faults }
+    ensures stands { D.tells → ItemStands O.tells file ((D.disk disk.new).shelf file.slot_id.0).now }
+    ensures others { D.tells → (slot : ℕ) → slot ≢ file.slot_id.0
+        → (D.disk disk.new).shelf slot ≡ (D.disk disk.old).shelf slot }
+{
+    file.images();
+    let slot = file.slot_id();
+    let Parts {
+        file,
+        entries,
+        names,
+    } = file.into_parts();
+    disk.give_back(slot.0, file);
+    FileLog { entries, names }
 }

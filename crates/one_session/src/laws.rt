@@ -3,21 +3,20 @@ ghost use Rattle.std.specs.Prelude.{◌≡◌, ℕ, ◌++◌, List, [], ◌∷�
 ghost use Rattle.vfs_names.specs.declared.fingerprint.Fingerprint.{Fingerprint};
 ghost use Rattle.vfs_names.specs.declared.who.Actor.TheVariants.{Session};
 ghost use Rattle.vfs_names.specs.declared.who.By.{By};
-ghost use Rattle.memory_item.specs.Known.{Holds};
 ghost use Rattle.session_script.specs.declared.call.CallLine.{CallLine};
 ghost use Rattle.session_text.specs.declared.reply.Record.{Record};
 ghost use Rattle.one_session.specs.Did.{Did};
-ghost use Rattle.one_session.specs.Served.{Serves};
+ghost use Rattle.one_session.specs.Served.{Knows, Serves};
 ghost use Rattle.one_session.specs.State.{State};
 
-use vfs_outside::Object;
+use vfs_outside::{CacheFile, Object};
 
 /// A call that does what calls do, told by the state before it, leaves a state that matches all calls so far and it.
-pub fn what_a_call_does_matches<O: Object>()
+pub fn what_a_call_does_matches<O: Object, F: CacheFile>()
     ensures { (session : ℕ) (by : By) (line : CallLine) (done : Record) (s t : State)
         (more before : List (Fingerprint × List ℕ))
         → by.who.actor ≡ Session session → done.line ≡ line.line
         → t.records ≡ s.records ++ done ∷ []
-        → Did session (Holds O.tells (more ++ before)) by line.call done s t
-        → Serves session O.tells before (more ++ before) by line done s t }
+        → Did session (Knows F.tells O.tells (more ++ before)) by line.call done s t
+        → Serves session F.tells O.tells before (more ++ before) by line done s t }
 {}

@@ -1,6 +1,7 @@
-//! The calls of one session: opens of what the remote's root shows or what is made there, reads, writes and closes.
+//! The calls of one session: opens of what the remote's root shows or what is made there, reads, writes, changes of size and closes.
 #![tactic(auto)]
 
+mod copy;
 mod files;
 mod handle;
 mod laws;
@@ -12,6 +13,7 @@ mod outcome;
 mod paths;
 mod plan;
 mod session;
+mod slots;
 mod start;
 mod step;
 mod store;
@@ -20,8 +22,7 @@ mod tree_entry;
 
 pub use handle::Handle;
 pub use laws::what_a_call_does_matches;
-pub use log::EpochLog;
-pub use memory_item::FileLog;
+pub use log::{EpochLog, FileLog};
 pub use session::OneSession;
 pub use step::Step;
 

@@ -1,14 +1,23 @@
 use crate::Step;
-use memory_item::FileLog;
+use item_core::Entry;
 use session_text::Record;
-use vfs_outside::{Object, TreeEntry};
+use vfs_names::VPath;
+use vfs_outside::{CacheFile, Object, TreeEntry};
+
+/// A file's history, its oldest entry first, and beside it a path for each entry that names the
+/// file anew.
+#[derive(Debug, Drop)]
+pub struct FileLog {
+    pub entries: Vec<Entry>,
+    pub names: Vec<VPath>,
+}
 
 /// What was kept of an epoch: the tree's history, the files' histories by number, and the records of its calls, beside
-/// each what the call did to the objects behind the files.
+/// each what the call did to the files.
 #[derive(Drop)]
-pub struct EpochLog<O: Object> {
+pub struct EpochLog<O: Object, F: CacheFile> {
     pub tree: Vec<TreeEntry>,
     pub files: Vec<FileLog>,
     pub records: Vec<Record>,
-    pub steps: Vec<Step<O>>,
+    pub steps: Vec<Step<O, F>>,
 }

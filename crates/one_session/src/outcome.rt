@@ -40,8 +40,8 @@ impl Outcome {
         }
     }
 
-    /// The answer of a read that was refused, which for the object has a place in the file.
-    pub(crate) fn of_read(why: Refusal, place: Option<(ItemId, u32)>) -> Outcome
+    /// The answer of a call on a handle that was refused, which for the object and the disk has a place in the file.
+    pub(crate) fn of_refusal(why: Refusal, place: Option<(ItemId, u32)>) -> Outcome
         ensures reply { result.reply ≡ Reply.Refused why }
         ensures tree { result.tree ≡ None }
         ensures file { result.file ≡ refused_place why place }
@@ -49,6 +49,7 @@ impl Outcome {
         let reply = Reply::Refused(why);
         match why {
             Refusal::RemoteFault => Outcome::of_file(reply, place),
+            Refusal::DiskFault => Outcome::of_file(reply, place),
             Refusal::Stale { .. } => Outcome::of_file(reply, place),
             _ => Outcome::of_file(reply, None),
         }

@@ -1,33 +1,37 @@
-ghost use Rattle.std.specs.Prelude.{◌≡◌, ◌<◌, ◌≤◌, ◌+◌, ℕ, List, [], map, OnOk, OnErr, IfOk};
+ghost use Rattle.std.specs.Prelude.{◌≡◌, ◌<◌, ◌≤◌, ◌+◌, ℕ, List, [], map, length, false, OnOk, OnErr, IfOk};
 ghost use Rattle.vfs_names.specs.declared.fingerprint.Fingerprint.{Fingerprint};
 ghost use Rattle.vfs_names.specs.declared.who.Actor.TheVariants.{Session};
+ghost use Rattle.downloaders.specs.Rules.{HasChunk};
 ghost use Rattle.session_text.specs.declared.reply.Record.{Record};
-ghost use Rattle.memory_item.specs.Known.{Holds};
-ghost use Rattle.one_session.specs.Causes.{AreGiven, HasRemoteCause, TakesStep};
+ghost use Rattle.one_session.specs.Causes.{AreGiven, HasRemoteCause};
 ghost use Rattle.one_session.specs.Logs.{history_of};
-ghost use Rattle.one_session.specs.Served.{Fits, IsServable, Serves};
+ghost use Rattle.one_session.specs.Served.{Fits, IsServable, Knows, Serves};
+ghost use Rattle.one_session.specs.Slots.{ImagesStand, Lends};
+ghost use Rattle.one_session.specs.Steps.{TakesStep};
+ghost use Rattle.one_session.specs.Views.{given_all};
 ghost use Rattle.one_session.specs.Whole.{IsUpTo, IsWhole};
 
 use crate::outcome::Outcome;
 use crate::store::Store;
 use crate::{EpochLog, Step};
+use downloaders::Plan;
 use session_script::CallLine;
 use session_text::Record;
 use std::alloc::Global;
 use std::marker::Model;
 use std::snapshot::Snapshot;
 use vfs_names::{By, NoMemory};
-use vfs_outside::{Object, Remote};
+use vfs_outside::{CacheDisk, CacheFile, Object, Remote};
 
-/// One session's calls. Contracts see its histories, its handles, the objects behind its files and its records.
+/// One session's calls. Contracts see its histories, its handles, its files and its records.
 #[derive(Drop)]
-pub struct OneSession<O: Object> {
-    store: Store<O>,
+pub struct OneSession<O: Object, F: CacheFile> {
+    store: Store<O, F>,
     records: Vec<Record>,
-    steps: Vec<Step<O>>,
+    steps: Vec<Step<O, F>>,
 }
 
-impl<O: Object> Model for OneSession<O> {
+impl<O: Object, F: CacheFile> Model for OneSession<O, F> {
     ghost use Rattle.std.specs.Prelude.{◌-◌, min, vec_len, vec_capacity};
     ghost use Rattle.one_session.specs.Standing.{IsSoundStore, state_of};
     ghost use Rattle.one_session.specs.State.{State};
@@ -37,18 +41,17 @@ impl<O: Object> Model for OneSession<O> {
     ghost view = { λ s. state_of s.store s.records.items s.steps.items
         (min (vec_capacity s.records - vec_len s.records) (vec_capacity s.steps - vec_len s.steps)) };
 
-    ghost invariant = { λ s. IsSoundStore s.store };
+    ghost invariant = { λ s. IsSoundStore F.tells s.store };
 }
 
-impl<O: Object> OneSession<O> {
+impl<O: Object, F: CacheFile> OneSession<O, F> {
     /// No call was served yet. Each history is to have at most `limit` places.
-    pub fn new(alloc: Global, limit: u32) -> Result<OneSession<O>, NoMemory>
+    pub fn new(alloc: Global, limit: u32) -> Result<OneSession<O, F>, NoMemory>
         ensures fits { (handed : List (Fingerprint × List ℕ))
-            → IfOk result (λ s. Fits 1 (Holds O.tells handed) [] s) }
+            → IfOk result (λ s. Fits 1 (Knows F.tells O.tells handed) [] s) }
         ensures limit { IfOk result (λ s. s.limit ≡ limit) }
         ensures none { IfOk result (λ s. s.files ≡ []) }
-        ensures given { IfOk result (λ s. s.pairs ≡ []) }
-        ensures untouched { IfOk result (λ s. s.behind ≡ []) }
+        ensures untouched { IfOk result (λ s. s.items ≡ []) }
         ensures steps { IfOk result (λ s. s.steps ≡ []) }
     {
         match Store::new(alloc, limit) {
@@ -78,33 +81,43 @@ impl<O: Object> OneSession<O> {
     }
 
     /// Serves a call of the session: does it, and records its answer. Takes constant time beside the bytes and names that
-    /// it handles, but for the first open, which lists the root.
-    pub fn serve<R: Remote<Object = O>>(
+    /// it handles, a look-up in the ranges of the file's bytes and the text of its metadata, but for the first open, which
+    /// lists the root.
+    pub fn serve<R: Remote<Object = O>, D: CacheDisk<File = F>>(
         &mut self,
         alloc: Global,
         remote: &mut R,
+        disk: &mut D,
+        plan: &Plan,
         by: By,
         line: &CallLine,
     )
         requires room { 0 < self.old.room }
+        requires chunk { HasChunk plan.now.chunk }
         requires servable { IsServable line.now.call }
         requires session { line.now.session ≡ 1 }
         requires actor { by.who.actor ≡ Session 1 }
         requires pass { by.pass ≡ 0 }
         requires later { IsUpTo by self.old.files }
-        requires given { AreGiven O.tells (R.outside remote.old).handed self.old.pairs }
+        requires lends { Lends D.tells (length self.old.files) (D.disk disk.old) }
+        requires given { AreGiven O.tells (R.outside remote.old).handed (given_all self.old.items) }
         ensures served { (done : Record)
-            × Serves 1 O.tells (R.outside remote.old).handed (R.outside remote.new).handed
+            × Serves 1 F.tells O.tells (R.outside remote.old).handed (R.outside remote.new).handed
             by line.now done self.old self.new
             × HasRemoteCause line.now.call done self.new.tree (R.outside remote.old)
             (R.outside remote.new)
-            × TakesStep line.now.call done self.old self.new }
-        ensures given { AreGiven O.tells (R.outside remote.new).handed self.new.pairs }
+            × TakesStep plan.now (D.disk disk.old).faults (D.disk disk.new).faults
+            line.now.call done self.old self.new }
+        ensures lends { Lends D.tells (length self.new.files) (D.disk disk.new) }
+        ensures faults { (D.disk disk.old).faults ≤ (D.disk disk.new).faults }
+        ensures given { AreGiven O.tells (R.outside remote.new).handed (given_all self.new.items) }
         ensures later { IsUpTo by self.new.files }
         ensures room { self.old.room ≤ self.new.room + 1 }
     {
         let before = Snapshot::of(&self.store.files);
-        let Outcome { reply, tree, file } = self.store.answer(alloc, remote, by, &line.call);
+        let Outcome { reply, tree, file } = self
+            .store
+            .answer(alloc, remote, disk, plan, by, &line.call);
         let after = Snapshot::of(&self.store.files);
         let done = Record {
             line: line.line,
@@ -123,13 +136,21 @@ impl<O: Object> OneSession<O> {
         self.records.as_slice()
     }
 
-    /// The histories and the records, handed over; takes no memory.
-    pub fn into_log(self) -> EpochLog<O>
+    /// The histories and the records, handed over, and each file given back to its slot; takes no memory. Where the disk
+    /// tells, the image of each slot then stands, after any number of its calls, for the part of its file's history that was
+    /// made by then.
+    pub fn into_log<D: CacheDisk<File = F>>(self, disk: &mut D) -> EpochLog<O, F>
+        requires lends { Lends D.tells (length self.files) (D.disk disk.old) }
         ensures tree { result.tree.items ≡ self.tree }
         ensures files { map history_of result.files.items ≡ self.files }
         ensures records { result.records.items ≡ self.records }
         ensures steps { result.steps.items ≡ self.steps }
         ensures whole { IsWhole 1 self.tree self.files }
+        ensures back { (slot : ℕ) → (D.disk disk.new).out slot ≡ false }
+        ensures faults { (D.disk disk.old).faults ≤ (D.disk disk.new).faults }
+        ensures images { D.tells → (handed : List (Fingerprint × List ℕ))
+            → AreGiven O.tells handed (given_all self.items)
+            → ImagesStand O.tells handed (D.disk disk.new) self.files }
     {
         let OneSession {
             store,
@@ -139,7 +160,7 @@ impl<O: Object> OneSession<O> {
         let Store { tree, files, .. } = store;
         EpochLog {
             tree: tree.into_entries(),
-            files: files.into_logs(),
+            files: files.into_logs(disk),
             records,
             steps,
         }

@@ -26,7 +26,7 @@ abbrev pub is_built_call : Call → Bool
 is_built_call (call.Open h path how) = is_plain_open how && is_one_name path
 is_built_call (call.Read h pos len) = true
 is_built_call (call.Write h pos payload) = true
-is_built_call (call.Size h size) = false
+is_built_call (call.Size h size) = true
 is_built_call (call.Close h) = true
 is_built_call (call.Stat path) = false
 is_built_call (call.List path) = false

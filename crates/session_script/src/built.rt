@@ -21,7 +21,7 @@ fn is_built_call(call: &Call) -> bool
 {
     match call {
         Call::Open { path, how, .. } => is_plain_open(how) && is_one_name(path),
-        Call::Read { .. } | Call::Write { .. } | Call::Close { .. } => true,
+        Call::Read { .. } | Call::Write { .. } | Call::Size { .. } | Call::Close { .. } => true,
         _ => false,
     }
 }

@@ -327,7 +327,7 @@ fn scripts_are_read_to_the_first_refused_line(rt: HostRuntime) -> Result<(), Fai
         (b"s1 open 0 a w".as_slice(), (1, "unbuilt", 0)),
         (b"s2 close 0".as_slice(), (1, "unbuilt", 0)),
         (b"s1 stat /".as_slice(), (1, "unbuilt", 0)),
-        (b"s1 size 0 1".as_slice(), (1, "unbuilt", 0)),
+        (b"s1 stat a".as_slice(), (1, "unbuilt", 0)),
         (b"s2 write 0 0 text:".as_slice(), (1, "unbuilt", 0)),
         (b"restart".as_slice(), (1, "unbuilt", 0)),
         (b"join\njoin 1\n".as_slice(), (2, "words", 0)),

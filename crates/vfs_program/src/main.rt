@@ -1,7 +1,8 @@
-//! The program: runs the script on its standard input over a folder and a cache in memory, and writes the transcript.
+//! The program: runs the script on its standard input over two folders, the remote and the cache, and writes the
+//! transcript.
 #![tactic(auto)]
 
-use cache_memory::MemoryDisk;
+use cache_folder::FolderDisk;
 use remote_folder::FolderRemote;
 use std::process::ExitCode;
 use std::rt::Env;
@@ -36,7 +37,7 @@ fn main(rt: HostRuntime) -> ExitCode {
         &mut source,
         &mut sink,
         FolderRemote::new(alloc, rt),
-        MemoryDisk::new(alloc),
+        FolderDisk::new(alloc, rt),
         &mut clock,
         &OpenGate,
     );

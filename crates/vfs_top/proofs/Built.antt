@@ -5,6 +5,7 @@ use Rattle.vfs_names.specs.declared.calls.Access.{Access}
 use Rattle.vfs_names.specs.declared.calls.Access.TheVariants as access
 use Rattle.vfs_names.specs.declared.calls.How.{How}
 use Rattle.session_script.specs.Built.{may_read, is_built_call, is_plain_open}
+use Rattle.session_script.specs.Calls.{AreArguments}
 use Rattle.session_script.specs.Script.{AreLines, Does, is_quiet, lines_of, numbered}
 use Rattle.session_script.specs.declared.call.Call.{Call}
 use Rattle.session_script.specs.declared.call.Call.TheVariants as call
@@ -31,21 +32,21 @@ reads_of access.Both e = λ w. cc
 reads_in : (how : How) → is_plain_open how ≡ true → how.access ≢ access.Write
 reads_in how e = reads_of how.access (left_holds _ _ (left_holds _ _ (left_holds _ _ e)))
 
-servable : (c : Call) → is_built_call c ≡ true → IsServable c
-servable (call.Open h path how) e = reads_in how (left_holds _ _ e)
-servable (call.Read h pos len) e = tt
-servable (call.Write h pos payload) e = tt
-servable (call.Size h size) e = cc
-servable (call.Close h) e = tt
-servable (call.Stat path) e = cc
-servable (call.List path) e = cc
-servable (call.MakeDir path) e = cc
-servable (call.RemoveDir path) e = cc
-servable (call.Unlink path) e = cc
-servable (call.Rename from to) e = cc
+servable : (c : Call) (arguments : List (List ℕ)) → AreArguments arguments c → is_built_call c ≡ true → IsServable c
+servable (call.Open h path how) arguments a e = (reads_in how (left_holds _ _ e), a.3.0)
+servable (call.Read h pos len) arguments a e = tt
+servable (call.Write h pos payload) arguments a e = tt
+servable (call.Size h size) arguments a e = tt
+servable (call.Close h) arguments a e = tt
+servable (call.Stat path) arguments a e = cc
+servable (call.List path) arguments a e = cc
+servable (call.MakeDir path) arguments a e = cc
+servable (call.RemoveDir path) arguments a e = cc
+servable (call.Unlink path) arguments a e = cc
+servable (call.Rename from to) arguments a e = cc
 
 can_do : (n : ℕ) (text : List ℕ) (asked : What) → Does n text asked → CanDo n asked
-can_do n text (what.Call c) d = (sym d.line.words.0, eqb-true c.session 1 (left_holds _ _ d.built), servable c.call (right_holds (c.session == 1) _ d.built))
+can_do n text (what.Call c) d = (sym d.line.words.0, eqb-true c.session 1 (left_holds _ _ d.built), servable c.call d.line.words.2 d.line.words.3 (right_holds (c.session == 1) _ d.built))
 can_do n text (what.Advance ms) d = cc (d.built)
 can_do n text what.Tick d = cc (d.built)
 can_do n text what.Clean d = cc (d.built)

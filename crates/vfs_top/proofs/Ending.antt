@@ -3,17 +3,25 @@ use Rattle.std.proofs.Common.{◌≡◌, ◌∙◌, inl, inr, ℕ, ◌≤◌, �
 use Rattle.std.specs.Io.KnownBytes.{Appends}
 use Rattle.vfs_names.specs.declared.who.By.{By}
 use Rattle.vfs_outside.proofs.Told.{appends_twice}
+use Rattle.std.specs.List.{AllByRecursion}
+use Rattle.std.specs.Prelude.{false}
+use Rattle.vfs_names.specs.declared.fingerprint.Fingerprint.{Fingerprint}
 use Rattle.vfs_outside.specs.Causes.{AppendsFront}
 use Rattle.vfs_outside.specs.Outside.{Outside}
 use Rattle.session_script.specs.declared.call.Line.{Line}
 use Rattle.session_text.specs.Lines.{end_text, start_text}
-use Rattle.memory_item.specs.Known.{Holds}
-use Rattle.one_session.specs.Served.{Fits, IsServed}
+use Rattle.downloaders.specs.declared.Plan.{Plan}
+use Rattle.one_session.specs.Causes.{AreGiven, HasRemoteCause}
+use Rattle.one_session.specs.Served.{Fits, IsServed, Knows, Served}
+use Rattle.one_session.specs.Slots.{ImagesStand}
 use Rattle.one_session.specs.State.{State}
+use Rattle.one_session.specs.Views.{given_all}
 use Rattle.one_session.specs.Whole.{IsWhole}
 use Rattle.vfs_top.proofs.Begun.{none_gone}
+use Rattle.vfs_top.proofs.Going.{steps_later}
 use Rattle.vfs_top.proofs.Phased.{by_phase}
 use Rattle.vfs_top.proofs.Texts.{epoch_written, some_written, start_unwritten, writes_neither, writes_twice}
+use Rattle.vfs_top.specs.Around.{Around, IsEmpty}
 use Rattle.vfs_top.specs.Ended.{RunsEpoch, RunsLines}
 use Rattle.vfs_top.specs.Epoch.{Epoch}
 use Rattle.vfs_top.specs.Event.{Event, before_last, calls_of, line_of, maker_at}
@@ -26,44 +34,58 @@ use Rattle.vfs_top.specs.declared.write.Unwritten.{Unwritten}
 abbrev epoch_in : State → Epoch
 epoch_in s = record { tree = s.tree; files = s.files; records = s.records; steps = s.steps }
 
--- what a session handed over
-record IsOf (s : State) (e : Epoch) : Type 0 where
-  tree : e.tree ≡ s.tree
-  files : e.files ≡ s.files
-  records : e.records ≡ s.records
-  steps : e.steps ≡ s.steps
+-- what a session handed over when its files were given back to the disk, from a moment to another
+pub record HandsOver (kept tells : Type 0) (s : State) (old new : Around) (e : Epoch) : Type 0 where
+  pub tree : e.tree ≡ s.tree
+  pub files : e.files ≡ s.files
+  pub records : e.records ≡ s.records
+  pub steps : e.steps ≡ s.steps
+  pub whole : IsWhole 1 s.tree s.files
+  pub moment : new.moment ≡ old.moment
+  pub remote : new.remote ≡ old.remote
+  pub faults : old.disk.faults ≤ new.disk.faults
+  pub back : (slot : ℕ) → new.disk.out slot ≡ false
+  pub images : kept → (handed : List (Fingerprint × List ℕ)) → AreGiven tells handed (given_all s.items) → ImagesStand tells handed new.disk s.files
 
-handed_over : (P : Epoch → Type 0) (s : State) (e : Epoch) → IsOf s e → P (epoch_in s) → P e
-handed_over P s e is p =
+along : (kept tells : Type 0) (P : Epoch → Type 0) (s : State) (old new : Around) (e : Epoch) → HandsOver kept tells s old new e → P (epoch_in s) → P e
+along kept tells P s old new e is p =
     subst (λ l. P (record { tree = l; files = e.files; records = e.records; steps = e.steps })) (sym is.tree)
     (subst (λ l. P (record { tree = s.tree; files = l; records = e.records; steps = e.steps })) (sym is.files)
     (subst (λ l. P (record { tree = s.tree; files = s.files; records = l; steps = e.steps })) (sym is.records)
     (subst (λ l. P (record { tree = s.tree; files = s.files; records = s.records; steps = l })) (sym is.steps) p)))
 
-epoch_left : (tells : Type 0) (start a : Now) (lines left : List Line) (by : By) (events : List Event) → IsGoing tells start lines left by events a → IsWhole 1 a.session.tree a.session.files
-    → IsEpoch tells start.moment a.moment start.remote a.remote (map line_of (reverse events)) events (epoch_in a.session)
-epoch_left tells start a lines left by events g whole = record {
+at_remote : (P : Outside → Type 0) (old new : Around) → new.remote ≡ old.remote → P old.remote → P new.remote
+at_remote P old new same p = subst P (sym same) p
+
+epoch_left : (kept tells : Type 0) (plan : Plan) (start new : Around) (a : Now) (lines left : List Line) (by : By) (events : List Event) (e : Epoch) → (kept → IsEmpty start.disk)
+    → IsGoing kept tells plan start lines left by events a → HandsOver kept tells a.session a.around new e
+    → IsEpoch kept tells plan start new (map line_of (reverse events)) events (epoch_in a.session)
+epoch_left kept tells plan start new a lines left by events e empty g h = record {
+  empty = empty;
   asked = refl;
   first = g.first;
   no_sooner = g.no_sooner;
   timely = g.timely;
-  last = g.is_now;
+  last = g.is_now ∙ sym h.moment;
   recorded = g.fits.records;
-  causes = g.causes;
-  left = a.session.behind;
-  steps = g.steps;
-  matching = subst (λ n. IsServed 1 (Holds tells a.remote.handed) n (calls_of events) a.session.tree a.session.files) g.limit g.fits.matching;
-  whole = whole;
-  phases = by_phase g.first events a.session.tree a.session.files g.timely g.fits.matching.tree whole;
+  causes = at_remote (λ (o : Outside). AllByRecursion (λ (d : Served). HasRemoteCause d.line.call d.done a.session.tree start.remote o) (calls_of events)) a.around new h.remote g.causes;
+  left = a.session.items;
+  steps = steps_later plan start.disk.faults a.around.disk.faults start.disk.faults new.disk.faults a.session.items (calls_of events) (reverse a.session.steps) (omega arith) h.faults g.steps;
+  matching = at_remote (λ (o : Outside). IsServed 1 (Knows kept tells o.handed) history_limit (calls_of events) a.session.tree a.session.files) a.around new h.remote
+      (subst (λ n. IsServed 1 (Knows kept tells a.around.remote.handed) n (calls_of events) a.session.tree a.session.files) g.limit g.fits.matching);
+  whole = h.whole;
+  phases = by_phase g.first events a.session.tree a.session.files g.timely g.fits.matching.tree h.whole;
+  back = h.back;
+  images = λ k. at_remote (λ (o : Outside). ImagesStand tells o.handed new.disk a.session.files) a.around new h.remote (h.images k a.around.remote.handed g.given);
 }
 
-front_left : (tells : Type 0) (start a : Now) (lines left : List Line) (by : By) (events : List Event) (e : Epoch) → IsGoing tells start lines left by events a → IsWhole 1 a.session.tree a.session.files → IsOf a.session e
-    → DoesFront tells start.moment a.moment start.remote a.remote lines events e
-front_left tells start a lines left by events e g whole is = record {
+front_left : (kept tells : Type 0) (plan : Plan) (start new : Around) (a : Now) (lines left : List Line) (by : By) (events : List Event) (e : Epoch) → (kept → IsEmpty start.disk)
+    → IsGoing kept tells plan start lines left by events a → HandsOver kept tells a.session a.around new e → DoesFront kept tells plan start new lines events e
+front_left kept tells plan start new a lines left by events e empty g h = record {
   lines = map line_of (reverse events);
   others = left;
   front = sym g.asked;
-  did = handed_over (IsEpoch tells start.moment a.moment start.remote a.remote (map line_of (reverse events)) events) a.session e is (epoch_left tells start a lines left by events g whole);
+  did = along kept tells (IsEpoch kept tells plan start new (map line_of (reverse events)) events) a.session a.around new e h (epoch_left kept tells plan start new a lines left by events e empty g h);
 }
 
 all_asked : (lines done left : List Line) → done ++ left ≡ lines → left ≡ [] → done ≡ lines
@@ -80,39 +102,37 @@ past_after : (w0 w1 w2 : Option (List ℕ)) (a b : List ℕ) → Appends w0 w1 a
 past_after w0 w1 w2 a b p q = (q.0, subst (Appends w0 w2) (sym (append_assoc a b q.0)) (appends_twice w0 w1 w2 a (b ++ q.0) p q.1))
 
 -- all lines were done, and then the end was written or not
-pub lines_done : (tells : Type 0) (start a : Now) (lines : List Line) (e : Epoch) (written : Option (List ℕ)) (faults : ℕ) (r : Result (Unit {0}) Unwritten)
-    → HasGone tells lines start a (Ok tt) → IsWhole 1 a.session.tree a.session.files → e.tree ≡ a.session.tree → e.files ≡ a.session.files → e.records ≡ a.session.records → e.steps ≡ a.session.steps
+pub lines_done : (kept tells : Type 0) (plan : Plan) (start a : Now) (new : Around) (lines : List Line) (e : Epoch) (written : Option (List ℕ)) (faults : ℕ) (r : Result (Unit {0}) Unwritten)
+    → (kept → IsEmpty start.around.disk) → HasGone kept tells plan lines start a (Ok tt) → HandsOver kept tells a.session a.around new e
     → Writes a.written written a.faults faults (end_block e ++ end_text 0) r
-    → RunsLines tells start.written written start.faults faults start.moment a.moment start.remote a.remote lines e r
-lines_done tells start a lines e written faults r gone whole tree files records steps x =
-    let front : DoesFront tells start.moment a.moment start.remote a.remote lines gone.events e =
-    front_left tells start a lines gone.left gone.by gone.events e gone.going whole (record { tree = tree; files = files; records = records; steps = steps }) in
+    → RunsLines kept tells plan start.written written start.faults faults start.around new lines e r
+lines_done kept tells plan start a new lines e written faults r empty gone h x =
     record {
       events = gone.events;
-      did = front;
-      all = on_ok r (subst (λ l. IsEpoch tells start.moment a.moment start.remote a.remote l gone.events e) (all_asked lines (map line_of (reverse gone.events)) gone.left gone.going.asked gone.all)
-          (handed_over (IsEpoch tells start.moment a.moment start.remote a.remote (map line_of (reverse gone.events)) gone.events) a.session e (record { tree = tree; files = files; records = records; steps = steps })
-          (epoch_left tells start a lines gone.left gone.by gone.events gone.going whole)));
+      did = front_left kept tells plan start.around new a lines gone.left gone.by gone.events e empty gone.going h;
+      all = on_ok r (subst (λ l. IsEpoch kept tells plan start.around new l gone.events e) (all_asked lines (map line_of (reverse gone.events)) gone.left gone.going.asked gone.all)
+          (along kept tells (IsEpoch kept tells plan start.around new (map line_of (reverse gone.events)) gone.events) a.session a.around new e h
+          (epoch_left kept tells plan start.around new a lines gone.left gone.by gone.events e empty gone.going h)));
       text = writes_twice start.written a.written written start.faults a.faults faults (texts_of gone.events) (end_block e ++ end_text 0) r gone.text x;
       told = past_front start.written a.written written (texts_of (before_last gone.events)) (end_block e ++ end_text 0) gone.most (some_written a.written written (end_block e ++ end_text 0) r x.all x.front);
     }
 
 -- not all was written that the lines showed
-pub lines_broken : (tells : Type 0) (start a : Now) (lines : List Line) (e : Epoch) (why : Unwritten)
-    → HasGone tells lines start a (Err why) → IsWhole 1 a.session.tree a.session.files → e.tree ≡ a.session.tree → e.files ≡ a.session.files → e.records ≡ a.session.records → e.steps ≡ a.session.steps
-    → RunsLines tells start.written a.written start.faults a.faults start.moment a.moment start.remote a.remote lines e (Err why)
-lines_broken tells start a lines e why gone whole tree files records steps = record {
+pub lines_broken : (kept tells : Type 0) (plan : Plan) (start a : Now) (new : Around) (lines : List Line) (e : Epoch) (why : Unwritten)
+    → (kept → IsEmpty start.around.disk) → HasGone kept tells plan lines start a (Err why) → HandsOver kept tells a.session a.around new e
+    → RunsLines kept tells plan start.written a.written start.faults a.faults start.around new lines e (Err why)
+lines_broken kept tells plan start a new lines e why empty gone h = record {
   events = gone.events;
-  did = front_left tells start a lines gone.left gone.by gone.events e gone.going whole (record { tree = tree; files = files; records = records; steps = steps });
+  did = front_left kept tells plan start.around new a lines gone.left gone.by gone.events e empty gone.going h;
   all = tt;
   text = writes_neither start.written a.written start.faults a.faults (texts_of gone.events) (end_block e ++ end_text 0) why gone.text;
   told = gone.most;
 }
 
 -- the start was written before
-pub started : (tells : Type 0) (w0 w1 w2 : Option (List ℕ)) (f0 f1 f2 before after : ℕ) (old new : Outside) (lines : List Line) (e : Epoch) (r : Result (Unit {0}) Unwritten)
-    → Writes w0 w1 f0 f1 (start_text 0 0 0) (Ok tt) → RunsLines tells w1 w2 f1 f2 before after old new lines e r → RunsEpoch tells w0 w2 f0 f2 before after old new lines e r
-started tells w0 w1 w2 f0 f1 f2 before after old new lines e r p q = record {
+pub started : (kept tells : Type 0) (plan : Plan) (w0 w1 w2 : Option (List ℕ)) (f0 f1 f2 : ℕ) (old new : Around) (lines : List Line) (e : Epoch) (r : Result (Unit {0}) Unwritten)
+    → Writes w0 w1 f0 f1 (start_text 0 0 0) (Ok tt) → RunsLines kept tells plan w1 w2 f1 f2 old new lines e r → RunsEpoch kept tells plan w0 w2 f0 f2 old new lines e r
+started kept tells plan w0 w1 w2 f0 f1 f2 old new lines e r p q = record {
   events = q.events;
   did = q.did;
   all = q.all;
@@ -121,15 +141,13 @@ started tells w0 w1 w2 f0 f1 f2 before after old new lines e r p q = record {
 }
 
 -- the start wasn't written, and nothing was done
-pub not_started : (tells : Type 0) (o : Outside) (w0 w1 : Option (List ℕ)) (f0 f1 moment : ℕ) (lines : List Line) (s : State) (e : Epoch) (why : Unwritten)
-    → Fits 1 (Holds tells o.handed) [] s → s.pairs ≡ [] → s.limit ≡ history_limit → s.files ≡ [] → IsUntouched s → CanDoAll lines → length lines ≤ 65536 → length lines ≤ s.room
-    → IsWhole 1 s.tree s.files → e.tree ≡ s.tree → e.files ≡ s.files → e.records ≡ s.records → e.steps ≡ s.steps
-    → Writes w0 w1 f0 f1 (start_text 0 0 0) (Err why) → RunsEpoch tells w0 w1 f0 f1 moment moment o o lines e (Err why)
-not_started tells o w0 w1 f0 f1 moment lines s e why fits given limit files untouched can few room whole in_tree in_files in_records in_steps p = record {
+pub not_started : (kept tells : Type 0) (plan : Plan) (o new : Around) (w0 w1 : Option (List ℕ)) (f0 f1 : ℕ) (lines : List Line) (s : State) (e : Epoch) (why : Unwritten)
+    → (kept → IsEmpty o.disk) → Fits 1 (Knows kept tells o.remote.handed) [] s → s.limit ≡ history_limit → s.files ≡ [] → IsUntouched s → CanDoAll lines → length lines ≤ 65536 → length lines ≤ s.room
+    → HandsOver kept tells s o new e → Writes w0 w1 f0 f1 (start_text 0 0 0) (Err why) → RunsEpoch kept tells plan w0 w1 f0 f1 o new lines e (Err why)
+not_started kept tells plan o new w0 w1 f0 f1 lines s e why empty fits limit files untouched can few room h p = record {
   events = [];
-  did = front_left tells (now s o w0 f0 moment) (now s o w0 f0 moment) lines lines (maker_at 1 moment) [] e
-      (none_gone tells o w0 f0 moment moment lines (maker_at 1 moment) s refl (omega arith) fits given limit files untouched can few room) whole
-      (record { tree = in_tree; files = in_files; records = in_records; steps = in_steps });
+  did = front_left kept tells plan o new (now s w0 f0 o) lines lines (maker_at 1 o.moment) [] e empty
+      (none_gone kept tells plan o o w0 f0 lines (maker_at 1 o.moment) s refl (omega arith) refl refl fits limit files untouched can few room) h;
   all = tt;
   text = start_unwritten w0 w1 f0 f1 (start_text 0 0 0) [] (end_block e) (end_text 0) why p;
   told = inl refl;

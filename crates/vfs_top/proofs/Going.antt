@@ -16,11 +16,15 @@ use Rattle.session_script.specs.declared.call.Line.{Line}
 use Rattle.session_script.specs.declared.call.What.TheVariants as what
 use Rattle.session_script.specs.declared.call.CallLine.{CallLine}
 use Rattle.session_text.specs.declared.reply.Record.{Record}
-use Rattle.one_session.specs.Causes.{AreSteps, CauseOf, HandsBig, HasObjectCause, HasRemoteCause, IsUnshown, ReadCause, TakesStep, ends_gone}
-use Rattle.one_session.specs.Served.{Served, open_at}
-use Rattle.one_session.specs.State.{State, Step, file_at}
+use Rattle.session_text.specs.declared.reply.Reply.{Reply}
+use Rattle.downloaders.specs.declared.Plan.{Plan}
+use Rattle.sparse_item.specs.Item.{Item}
+use Rattle.one_session.specs.Causes.{CauseOf, HandsBig, HasRemoteCause, IsUnshown, ends_gone}
+use Rattle.one_session.specs.Served.{Served}
+use Rattle.one_session.specs.State.{State, Step, item_in}
+use Rattle.one_session.specs.Steps.{AreSteps, IsOpenCause, TakesStep, Touches}
 use Rattle.one_session.specs.Tree.{shown}
-use Rattle.one_session.specs.declared.handle.Handle.{Handle}
+use Rattle.vfs_top.specs.Around.{Around}
 use Rattle.vfs_top.specs.Event.{Event, Called, calls_of, line_of}
 use Rattle.vfs_top.specs.Going.{IsGoing, MakesCall, Now}
 
@@ -111,33 +115,50 @@ causes_later (d ∷ served) tree more a b z extra h f g e = (cause_later d.line.
 pub lines_more : (e : Event) (older : List Event) (line : Line) (left lines : List Line) → line_of e ≡ line → map line_of (reverse older) ++ line ∷ left ≡ lines → map line_of (reverse (e ∷ older)) ++ left ≡ lines
 lines_more e older line left lines is asked = grind (arith, common_steps, is, asked)
 
--- why a read is refused, by the same handles
-cause_along : (opened opened' : ℕ → Option Handle) (c : Call) (done : Record) (step : Step) → ((h : ℕ) → opened h ≡ opened' h) → ReadCause c done opened step → ReadCause c done opened' step
-cause_along opened opened' (call.Read h pos len) done step e cause = λ why is of. subst (λ o. HasObjectCause o why step) (e h) (cause why is of)
-cause_along opened opened' (call.Open h path how) done step e cause = tt
-cause_along opened opened' (call.Write h pos payload) done step e cause = tt
-cause_along opened opened' (call.Size h size) done step e cause = tt
-cause_along opened opened' (call.Close h) done step e cause = tt
-cause_along opened opened' (call.Stat path) done step e cause = tt
-cause_along opened opened' (call.List path) done step e cause = tt
-cause_along opened opened' (call.MakeDir path) done step e cause = tt
-cause_along opened opened' (call.RemoveDir path) done step e cause = tt
-cause_along opened opened' (call.Unlink path) done step e cause = tt
-cause_along opened opened' (call.Rename from to) done step e cause = tt
+-- why an open is refused for the disk, when its counts rose before and rise further
+open_cause_later : (x y x' y' : ℕ) (r : Reply) (step : Step) → x' ≤ x → y ≤ y' → IsOpenCause x y r step → IsOpenCause x' y' r step
+open_cause_later x y x' y' r step f g cause = λ e. rose_or_file (cause e)
+  where
+    rose_or_file : Rose x y ⊎ ((item : ℕ) × Rose (item_in step.before item).slot.faults (item_in step.after item).slot.faults)
+        → Rose x' y' ⊎ ((item : ℕ) × Rose (item_in step.before item).slot.faults (item_in step.after item).slot.faults)
+    rose_or_file (inl h) = inl (later_rose x' x y' f (rose_later x y y' h g))
+    rose_or_file (inr h) = inr h
+
+touches_later : (plan : Plan) (x y x' y' : ℕ) (c : Call) (done : Record) (step : Step) → x' ≤ x → y ≤ y' → Touches plan x y c done step → Touches plan x' y' c done step
+touches_later plan x y x' y' (call.Open h path how) done step f g t = open_cause_later x y x' y' done.reply step f g t
+touches_later plan x y x' y' (call.Read h pos len) done step f g t = t
+touches_later plan x y x' y' (call.Write h pos payload) done step f g t = t
+touches_later plan x y x' y' (call.Size h size) done step f g t = t
+touches_later plan x y x' y' (call.Close h) done step f g t = tt
+touches_later plan x y x' y' (call.Stat path) done step f g t = tt
+touches_later plan x y x' y' (call.List path) done step f g t = tt
+touches_later plan x y x' y' (call.MakeDir path) done step f g t = tt
+touches_later plan x y x' y' (call.RemoveDir path) done step f g t = tt
+touches_later plan x y x' y' (call.Unlink path) done step f g t = tt
+touches_later plan x y x' y' (call.Rename from to) done step f g t = tt
+
+pub steps_later : (plan : Plan) (x y x' y' : ℕ) (left : List Item) (served : List Served) (steps : List Step) → x' ≤ x → y ≤ y' → AreSteps plan x y left served steps → AreSteps plan x' y' left served steps
+steps_later plan x y x' y' left [] [] f g s = s
+steps_later plan x y x' y' left [] (step ∷ earlier) f g s = absurd s
+steps_later plan x y x' y' left (d ∷ older) [] f g s = absurd s
+steps_later plan x y x' y' left (d ∷ older) (step ∷ earlier) f g s =
+    (s.0, s.1, touches_later plan x y x' y' d.line.call d.done step f g s.2, steps_later plan x y x' y' step.before older earlier f g s.3)
 
 -- one call more was a step
-steps_more : (d : Served) (served : List Served) (s t : State) → ((h : ℕ) → file_at s.table h ≡ open_at served h) → TakesStep d.line.call d.done s t → AreSteps s.behind served (reverse s.steps) → AreSteps t.behind (d ∷ served) (reverse t.steps)
-steps_more d served s t handles x steps =
-    subst (λ l. AreSteps t.behind (d ∷ served) l) (sym (ap reverse x.added ∙ reverse-append s.steps (step ∷ [])))
-    (refl, cause_along (file_at s.table) (open_at served) d.line.call d.done step handles x.cause, steps)
+steps_more : (plan : Plan) (first x y : ℕ) (d : Served) (served : List Served) (s t : State) → first ≤ x → x ≤ y → TakesStep plan x y d.line.call d.done s t
+    → AreSteps plan first x s.items served (reverse s.steps) → AreSteps plan first y t.items (d ∷ served) (reverse t.steps)
+steps_more plan first x y d served s t f g k steps =
+    subst (λ l. AreSteps plan first y t.items (d ∷ served) l) (sym (ap reverse k.added ∙ reverse-append s.steps (step ∷ [])))
+    (refl, k.placed, touches_later plan x y first y d.line.call d.done step f (omega arith) k.does, steps_later plan first x first y s.items served (reverse s.steps) (omega arith) g steps)
   where
     step : Step
-    step = record { before = s.behind; after = t.behind }
+    step = record { before = s.items; after = t.items }
 
 -- a call more was made
-pub call_made : (tells : Type 0) (start a b : Now) (lines left : List Line) (n : ℕ) (c : CallLine) (by : By) (events : List Event)
-    → IsGoing tells start lines (record { line = n; what = what.Call c } ∷ left) by events a → (x : MakesCall tells by c a b) → IsGoing tells start lines left by (Called (record { by = by; line = c; done = x.done }) ∷ events) b
-call_made tells start a b lines left n c by events p x =
+pub call_made : (kept tells : Type 0) (plan : Plan) (start : Around) (a b : Now) (lines left : List Line) (n : ℕ) (c : CallLine) (by : By) (events : List Event)
+    → IsGoing kept tells plan start lines (record { line = n; what = what.Call c } ∷ left) by events a → (x : MakesCall kept tells plan by c a b)
+    → IsGoing kept tells plan start lines left by (Called (record { by = by; line = c; done = x.done }) ∷ events) b
+call_made kept tells plan start a b lines left n c by events p x =
     let d : Served = record { by = by; line = c; done = x.done } in
     let e : line_of (Called d) ≡ record { line = n; what = what.Call c } = ap (λ n. record { line = n; what = what.Call c }) (sym p.can.0.0) in
     record {
@@ -152,15 +173,16 @@ call_made tells start a b lines left n c by events p x =
       given = x.given;
       limit = x.serves.limit ∙ p.limit;
       causes = (
-        later_cause c.call x.done b.session.tree start.remote a.remote b.remote p.more p.remote_faults p.changes p.handed x.cause,
-        subst (λ tree. AllByRecursion (λ (d : Served). HasRemoteCause d.line.call d.done tree start.remote b.remote) (calls_of events)) (sym x.serves.grew)
-            (causes_later (calls_of events) a.session.tree x.serves.more start.remote a.remote b.remote x.cause.more p.causes x.cause.faults x.cause.changes x.cause.handed),
+        later_cause c.call x.done b.session.tree start.remote a.around.remote b.around.remote p.more p.remote_faults p.changes p.handed x.cause,
+        subst (λ tree. AllByRecursion (λ (d : Served). HasRemoteCause d.line.call d.done tree start.remote b.around.remote) (calls_of events)) (sym x.serves.grew)
+            (causes_later (calls_of events) a.session.tree x.serves.more start.remote a.around.remote b.around.remote x.cause.more p.causes x.cause.faults x.cause.changes x.cause.handed),
       );
-      steps = steps_more d (calls_of events) a.session b.session p.fits.handles x.step p.steps;
+      steps = steps_more plan start.disk.faults a.around.disk.faults b.around.disk.faults d (calls_of events) a.session b.session p.disk_faults x.disk x.step p.steps;
+      disk_faults = omega (arith, p.disk_faults, x.disk);
       remote_faults = omega (arith, p.remote_faults, x.cause.faults);
       changes = omega (arith, p.changes, x.cause.changes);
       more = x.cause.more ++ p.more;
-      handed = handed_twice x.cause.more p.more start.remote.handed a.remote.handed b.remote.handed p.handed x.cause.handed;
+      handed = handed_twice x.cause.more p.more start.remote.handed a.around.remote.handed b.around.remote.handed p.handed x.cause.handed;
       can = p.can.1;
       room = omega (arith, p.room, x.room);
       few = omega (arith, p.few);

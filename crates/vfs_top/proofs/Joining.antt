@@ -5,6 +5,7 @@ use Rattle.std.specs.Io.KnownBytes.{Appends}
 use Rattle.vfs_names.specs.declared.who.By.{By}
 use Rattle.vfs_outside.proofs.Told.{appends_twice}
 use Rattle.vfs_outside.specs.Causes.{AppendsFront}
+use Rattle.downloaders.specs.declared.Plan.{Plan}
 use Rattle.item_core.specs.Legal.{IsNoLater}
 use Rattle.item_core.specs.declared.entry.Entry.{Entry}
 use Rattle.session_script.specs.declared.call.CallLine.{CallLine}
@@ -17,6 +18,7 @@ use Rattle.one_session.specs.Whole.{IsUpTo}
 use Rattle.vfs_top.proofs.Going.{call_made, lines_more}
 use Rattle.vfs_top.proofs.Texts.{some_written, writes_twice}
 use Rattle.vfs_top.proofs.Told.{count_records, last_told, pending, replies, text_more, told_and_pending}
+use Rattle.vfs_top.specs.Around.{Around, around}
 use Rattle.vfs_top.specs.Event.{Event, Called, Joined, before_last, calls_of, earlier, maker_at}
 use Rattle.vfs_top.specs.Going.{CanDo, CanDoAll, DoesLine, EndsPhase, HasGone, IsGoing, IsTold, IsUnderWay, MakesCall, Now, now}
 use Rattle.vfs_top.specs.Transcript.{texts_of}
@@ -33,10 +35,10 @@ up_to_next : (files : List History) (x y : By) → x.who.phase ≤ y.who.phase �
 up_to_next files x y p m h = λ item. no_later_still (reverse (entries_in files item)) x y p m (h item)
 
 -- a phase was ended, and the next one began or not
-joined : (tells : Type 0) (start a : Now) (lines left : List Line) (n moment : ℕ) (by next : By) (written : Option (List ℕ)) (faults : ℕ) (events : List Event)
-    → IsGoing tells start lines (record { line = n; what = what.Join } ∷ left) by events a → next ≡ maker_at (by.who.phase + 1) moment → by.now ≤ moment
-    → IsGoing tells start lines left next (Joined n moment ∷ events) (now a.session a.remote written faults moment)
-joined tells start a lines left n moment by next written faults events p maker sooner = record {
+joined : (kept tells : Type 0) (plan : Plan) (start : Around) (a : Now) (lines left : List Line) (n moment : ℕ) (by next : By) (written : Option (List ℕ)) (faults : ℕ) (events : List Event)
+    → IsGoing kept tells plan start lines (record { line = n; what = what.Join } ∷ left) by events a → next ≡ maker_at (by.who.phase + 1) moment → by.now ≤ moment
+    → IsGoing kept tells plan start lines left next (Joined n moment ∷ events) (now a.session written faults (around moment a.around.remote a.around.disk))
+joined kept tells plan start a lines left n moment by next written faults events p maker sooner = record {
   asked = lines_more (Joined n moment) events (record { line = n; what = what.Join }) left lines refl p.asked;
   first = p.first;
   no_sooner = p.no_sooner;
@@ -49,6 +51,7 @@ joined tells start a lines left n moment by next written faults events p maker s
   limit = p.limit;
   causes = p.causes;
   steps = p.steps;
+  disk_faults = p.disk_faults;
   remote_faults = p.remote_faults;
   changes = p.changes;
   more = p.more;
@@ -59,11 +62,11 @@ joined tells start a lines left n moment by next written faults events p maker s
 }
 
 -- the replies of the phase that is under way are those of the records behind the others
-replies_left : (tells : Type 0) (start a : Now) (lines left : List Line) (p : Phase) (events : List Event) → IsGoing tells start lines left p.by events a → IsTold start p events a → replies (drop p.before a.session.records) ≡ pending events
-replies_left tells start a lines left p events g t = ap (λ n. replies (drop n a.session.records)) t.before ∙ ap (λ l. replies (drop (length (calls_of (earlier events))) l)) g.fits.records
+replies_left : (kept tells : Type 0) (plan : Plan) (start a : Now) (lines left : List Line) (p : Phase) (events : List Event) → IsGoing kept tells plan start.around lines left p.by events a → IsTold start.written start.faults p events a → replies (drop p.before a.session.records) ≡ pending events
+replies_left kept tells plan start a lines left p events g t = ap (λ n. replies (drop n a.session.records)) t.before ∙ ap (λ l. replies (drop (length (calls_of (earlier events))) l)) g.fits.records
 
 -- what the earlier phases showed was written, told as the writing of a text
-told_writes : (start a : Now) (p : Phase) (events : List Event) → IsTold start p events a → Writes start.written a.written start.faults a.faults (texts_of (earlier events)) (Ok tt)
+told_writes : (start a : Now) (p : Phase) (events : List Event) → IsTold start.written start.faults p events a → Writes start.written a.written start.faults a.faults (texts_of (earlier events)) (Ok tt)
 told_writes start a p events t = record { all = t.text; front = tt; rose = λ e. cc; later = t.faults }
 
 past_more : (w0 w1 w2 : Option (List ℕ)) (a b : List ℕ) → Appends w0 w1 a → AppendsFront w1 w2 b → AppendsPast w0 w2 a
@@ -75,14 +78,15 @@ text_joined events n moment shown is =
     ∙ ap (λ l. l ++ join_text n) (sym (told_and_pending events)) ∙ sym (text_more (Joined n moment) events)
 
 -- a phase was ended, what it showed was written, and the next phase begins
-phase_ended : (tells : Type 0) (start a : Now) (lines left : List Line) (n : ℕ) (p q : Phase) (written : Option (List ℕ)) (faults moment : ℕ) (events : List Event)
-    → IsGoing tells start lines (record { line = n; what = what.Join } ∷ left) p.by events a → IsTold start p events a → EndsPhase n p q a (now a.session a.remote written faults moment) (Ok tt)
-    → IsUnderWay tells start lines left q (now a.session a.remote written faults moment)
-phase_ended tells start a lines left n p q written faults moment events g t x = record {
+phase_ended : (kept tells : Type 0) (plan : Plan) (start a : Now) (lines left : List Line) (n : ℕ) (p q : Phase) (written : Option (List ℕ)) (faults moment : ℕ) (events : List Event)
+    → IsGoing kept tells plan start.around lines (record { line = n; what = what.Join } ∷ left) p.by events a → IsTold start.written start.faults p events a
+    → EndsPhase n p q a (now a.session written faults (around moment a.around.remote a.around.disk)) (Ok tt)
+    → IsUnderWay kept tells plan start lines left q (now a.session written faults (around moment a.around.remote a.around.disk))
+phase_ended kept tells plan start a lines left n p q written faults moment events g t x = record {
   events = Joined n moment ∷ events;
-  going = joined tells start a lines left n moment p.by q.by written faults events g x.by (omega (arith, g.is_now, x.moment, ap (λ (b : By). b.now) g.maker));
+  going = joined kept tells plan start.around a lines left n moment p.by q.by written faults events g x.by (omega (arith, g.is_now, x.moment, ap (λ (b : By). b.now) g.maker));
   told = record {
-    text = subst (Appends start.written written) (text_joined events n moment (replies (drop p.before a.session.records)) (replies_left tells start a lines (record { line = n; what = what.Join } ∷ left) p events g t))
+    text = subst (Appends start.written written) (text_joined events n moment (replies (drop p.before a.session.records)) (replies_left kept tells plan start a lines (record { line = n; what = what.Join } ∷ left) p events g t))
         (appends_twice start.written a.written written (texts_of (earlier events)) (replies (drop p.before a.session.records) ++ join_text n) t.text x.text.all);
     faults = omega (arith, t.faults, x.text.later);
     before = x.before ∙ ap length g.fits.records ∙ count_records (calls_of events);
@@ -91,16 +95,17 @@ phase_ended tells start a lines left n p q written faults moment events g t x = 
 }
 
 -- a phase was ended, and not all was written that it showed
-phase_broken : (tells : Type 0) (start a : Now) (lines left : List Line) (n : ℕ) (p q : Phase) (written : Option (List ℕ)) (faults moment : ℕ) (why : Unwritten) (events : List Event)
-    → IsGoing tells start lines (record { line = n; what = what.Join } ∷ left) p.by events a → IsTold start p events a → EndsPhase n p q a (now a.session a.remote written faults moment) (Err why)
-    → HasGone tells lines start (now a.session a.remote written faults moment) (Err why)
-phase_broken tells start a lines left n p q written faults moment why events g t x = record {
+phase_broken : (kept tells : Type 0) (plan : Plan) (start a : Now) (lines left : List Line) (n : ℕ) (p q : Phase) (written : Option (List ℕ)) (faults moment : ℕ) (why : Unwritten) (events : List Event)
+    → IsGoing kept tells plan start.around lines (record { line = n; what = what.Join } ∷ left) p.by events a → IsTold start.written start.faults p events a
+    → EndsPhase n p q a (now a.session written faults (around moment a.around.remote a.around.disk)) (Err why)
+    → HasGone kept tells plan lines start (now a.session written faults (around moment a.around.remote a.around.disk)) (Err why)
+phase_broken kept tells plan start a lines left n p q written faults moment why events g t x = record {
   by = maker_at (p.by.who.phase + 1) moment;
   left = left;
   events = Joined n moment ∷ events;
-  going = joined tells start a lines left n moment p.by (maker_at (p.by.who.phase + 1) moment) written faults events g refl (omega (arith, g.is_now, x.moment, ap (λ (b : By). b.now) g.maker));
+  going = joined kept tells plan start.around a lines left n moment p.by (maker_at (p.by.who.phase + 1) moment) written faults events g refl (omega (arith, g.is_now, x.moment, ap (λ (b : By). b.now) g.maker));
   all = tt;
-  text = subst (λ text. Writes start.written written start.faults faults text (Err why)) (text_joined events n moment (replies (drop p.before a.session.records)) (replies_left tells start a lines (record { line = n; what = what.Join } ∷ left) p events g t))
+  text = subst (λ text. Writes start.written written start.faults faults text (Err why)) (text_joined events n moment (replies (drop p.before a.session.records)) (replies_left kept tells plan start a lines (record { line = n; what = what.Join } ∷ left) p events g t))
       (writes_twice start.written a.written written start.faults a.faults faults (texts_of (earlier events)) (replies (drop p.before a.session.records) ++ join_text n) (Err why) (told_writes start a p events t) x.text);
   most = past_more start.written a.written written (texts_of (earlier events)) (replies (drop p.before a.session.records) ++ join_text n) t.text x.text.front;
 }
@@ -109,17 +114,20 @@ on_ok : {P : Type 0} (r : Result (Unit {0}) Unwritten) → P → OnOk r P
 on_ok (Ok x) p = p
 on_ok (Err why) p = tt
 
--- for each state with the session and the remote of another
-module _ (P : Now → Type 0) (a b : Now) (session : b.session ≡ a.session) (remote : b.remote ≡ a.remote) where
-  along : P (now a.session a.remote b.written b.faults b.moment) → P b
-  along p = subst (λ s. P (now s b.remote b.written b.faults b.moment)) (sym session) (subst (λ r. P (now a.session r b.written b.faults b.moment)) (sym remote) p)
+-- for each state with the session, the remote and the disk of another
+module _ (P : Now → Type 0) (a b : Now) (session : b.session ≡ a.session) (remote : b.around.remote ≡ a.around.remote) (disk : b.around.disk ≡ a.around.disk) where
+  along : P (now a.session b.written b.faults (around b.around.moment a.around.remote a.around.disk)) → P b
+  along p =
+      subst (λ s. P (now s b.written b.faults b.around)) (sym session)
+      (subst (λ r. P (now a.session b.written b.faults (around b.around.moment r b.around.disk))) (sym remote)
+      (subst (λ d. P (now a.session b.written b.faults (around b.around.moment a.around.remote d))) (sym disk) p))
 
 -- a call was made
-call_goes : (tells : Type 0) (start a b : Now) (lines left : List Line) (n : ℕ) (c : CallLine) (p : Phase)
-    → IsUnderWay tells start lines (record { line = n; what = what.Call c } ∷ left) p a → MakesCall tells p.by c a b → IsUnderWay tells start lines left p b
-call_goes tells start a b lines left n c p u x = record {
+call_goes : (kept tells : Type 0) (plan : Plan) (start a b : Now) (lines left : List Line) (n : ℕ) (c : CallLine) (p : Phase)
+    → IsUnderWay kept tells plan start lines (record { line = n; what = what.Call c } ∷ left) p a → MakesCall kept tells plan p.by c a b → IsUnderWay kept tells plan start lines left p b
+call_goes kept tells plan start a b lines left n c p u x = record {
   events = Called (record { by = p.by; line = c; done = x.done }) ∷ u.events;
-  going = call_made tells start a b lines left n c p.by u.events u.going x;
+  going = call_made kept tells plan start.around a b lines left n c p.by u.events u.going x;
   told = record {
     text = subst (λ w. Appends start.written w (texts_of (earlier u.events))) (sym x.written) u.told.text;
     faults = omega (arith, u.told.faults, x.faults);
@@ -128,48 +136,48 @@ call_goes tells start a b lines left n c p u x = record {
   };
 }
 
-next_what : (tells : Type 0) (start a b : Now) (lines left : List Line) (n : ℕ) (asked : What) (p q : Phase)
-    → IsUnderWay tells start lines (record { line = n; what = asked } ∷ left) p a → DoesLine tells n asked p q a b (Ok tt) → IsUnderWay tells start lines left q b
-next_what tells start a b lines left n (what.Call c) p q u x = subst (λ q. IsUnderWay tells start lines left q b) (sym x.1) (call_goes tells start a b lines left n c p u x.0)
-next_what tells start a b lines left n (what.Advance ms) p q u x = absurd x
-next_what tells start a b lines left n what.Tick p q u x = absurd x
-next_what tells start a b lines left n what.Clean p q u x = absurd x
-next_what tells start a b lines left n what.Poll p q u x = absurd x
-next_what tells start a b lines left n what.Join p q u x =
-    along (λ b. EndsPhase n p q a b (Ok tt) → IsUnderWay tells start lines left q b) a b x.session x.remote
-    (λ y. phase_ended tells start a lines left n p q b.written b.faults b.moment u.events u.going u.told y) x
-next_what tells start a b lines left n what.Restart p q u x = absurd x
+next_what : (kept tells : Type 0) (plan : Plan) (start a b : Now) (lines left : List Line) (n : ℕ) (asked : What) (p q : Phase)
+    → IsUnderWay kept tells plan start lines (record { line = n; what = asked } ∷ left) p a → DoesLine kept tells plan n asked p q a b (Ok tt) → IsUnderWay kept tells plan start lines left q b
+next_what kept tells plan start a b lines left n (what.Call c) p q u x = subst (λ q. IsUnderWay kept tells plan start lines left q b) (sym x.1) (call_goes kept tells plan start a b lines left n c p u x.0)
+next_what kept tells plan start a b lines left n (what.Advance ms) p q u x = absurd x
+next_what kept tells plan start a b lines left n what.Tick p q u x = absurd x
+next_what kept tells plan start a b lines left n what.Clean p q u x = absurd x
+next_what kept tells plan start a b lines left n what.Poll p q u x = absurd x
+next_what kept tells plan start a b lines left n what.Join p q u x =
+    along (λ b. EndsPhase n p q a b (Ok tt) → IsUnderWay kept tells plan start lines left q b) a b x.session x.remote x.disk
+    (λ y. phase_ended kept tells plan start a lines left n p q b.written b.faults b.around.moment u.events u.going u.told y) x
+next_what kept tells plan start a b lines left n what.Restart p q u x = absurd x
 
-broken_what : (tells : Type 0) (start a b : Now) (lines left : List Line) (n : ℕ) (asked : What) (p q : Phase) (why : Unwritten)
-    → IsUnderWay tells start lines (record { line = n; what = asked } ∷ left) p a → DoesLine tells n asked p q a b (Err why) → HasGone tells lines start b (Err why)
-broken_what tells start a b lines left n (what.Call c) p q why u x = cc (x.2)
-broken_what tells start a b lines left n (what.Advance ms) p q why u x = absurd x
-broken_what tells start a b lines left n what.Tick p q why u x = absurd x
-broken_what tells start a b lines left n what.Clean p q why u x = absurd x
-broken_what tells start a b lines left n what.Poll p q why u x = absurd x
-broken_what tells start a b lines left n what.Join p q why u x =
-    along (λ b. EndsPhase n p q a b (Err why) → HasGone tells lines start b (Err why)) a b x.session x.remote
-    (λ y. phase_broken tells start a lines left n p q b.written b.faults b.moment why u.events u.going u.told y) x
-broken_what tells start a b lines left n what.Restart p q why u x = absurd x
+broken_what : (kept tells : Type 0) (plan : Plan) (start a b : Now) (lines left : List Line) (n : ℕ) (asked : What) (p q : Phase) (why : Unwritten)
+    → IsUnderWay kept tells plan start lines (record { line = n; what = asked } ∷ left) p a → DoesLine kept tells plan n asked p q a b (Err why) → HasGone kept tells plan lines start b (Err why)
+broken_what kept tells plan start a b lines left n (what.Call c) p q why u x = cc (x.2)
+broken_what kept tells plan start a b lines left n (what.Advance ms) p q why u x = absurd x
+broken_what kept tells plan start a b lines left n what.Tick p q why u x = absurd x
+broken_what kept tells plan start a b lines left n what.Clean p q why u x = absurd x
+broken_what kept tells plan start a b lines left n what.Poll p q why u x = absurd x
+broken_what kept tells plan start a b lines left n what.Join p q why u x =
+    along (λ b. EndsPhase n p q a b (Err why) → HasGone kept tells plan lines start b (Err why)) a b x.session x.remote x.disk
+    (λ y. phase_broken kept tells plan start a lines left n p q b.written b.faults b.around.moment why u.events u.going u.told y) x
+broken_what kept tells plan start a b lines left n what.Restart p q why u x = absurd x
 
 -- the line at an index was done, or it was a join and not all was written that its phase showed
-module _ (tells : Type 0) (start a b : Now) (lines : List Line) (i : ℕ) (line : Line) (p q : Phase) (inside : i < length lines) (is : line ≡ get_or lines i line) where
+module _ (kept tells : Type 0) (plan : Plan) (start a b : Now) (lines : List Line) (i : ℕ) (line : Line) (p q : Phase) (inside : i < length lines) (is : line ≡ get_or lines i line) where
   at_index : drop i lines ≡ line ∷ drop (i + 1) lines
   at_index = rw (add-one, drop-cons lines i line) (ap (λ x. x ∷ drop (suc i) lines) (sym is))
 
   pub can_at : CanDoAll (drop i lines) → CanDo line.line line.what
   can_at h = (subst CanDoAll at_index h).0
 
-  pub next_at : IsUnderWay tells start lines (drop i lines) p a → DoesLine tells line.line line.what p q a b (Ok tt) → IsUnderWay tells start lines (drop (i + 1) lines) q b
-  next_at u x = next_what tells start a b lines (drop (i + 1) lines) line.line line.what p q (subst (λ left. IsUnderWay tells start lines left p a) at_index u) x
+  pub next_at : IsUnderWay kept tells plan start lines (drop i lines) p a → DoesLine kept tells plan line.line line.what p q a b (Ok tt) → IsUnderWay kept tells plan start lines (drop (i + 1) lines) q b
+  next_at u x = next_what kept tells plan start a b lines (drop (i + 1) lines) line.line line.what p q (subst (λ left. IsUnderWay kept tells plan start lines left p a) at_index u) x
 
-  pub broken_at : (why : Unwritten) → IsUnderWay tells start lines (drop i lines) p a → DoesLine tells line.line line.what p q a b (Err why) → HasGone tells lines start b (Err why)
-  broken_at why u x = broken_what tells start a b lines (drop (i + 1) lines) line.line line.what p q why (subst (λ left. IsUnderWay tells start lines left p a) at_index u) x
+  pub broken_at : (why : Unwritten) → IsUnderWay kept tells plan start lines (drop i lines) p a → DoesLine kept tells plan line.line line.what p q a b (Err why) → HasGone kept tells plan lines start b (Err why)
+  broken_at why u x = broken_what kept tells plan start a b lines (drop (i + 1) lines) line.line line.what p q why (subst (λ left. IsUnderWay kept tells plan start lines left p a) at_index u) x
 
 -- whatever was written
-going_still : (tells : Type 0) (start a : Now) (lines left : List Line) (by : By) (events : List Event) (written : Option (List ℕ)) (faults : ℕ)
-    → IsGoing tells start lines left by events a → IsGoing tells start lines left by events (now a.session a.remote written faults a.moment)
-going_still tells start a lines left by events written faults p = record {
+going_still : (kept tells : Type 0) (plan : Plan) (start : Around) (a : Now) (lines left : List Line) (by : By) (events : List Event) (written : Option (List ℕ)) (faults : ℕ)
+    → IsGoing kept tells plan start lines left by events a → IsGoing kept tells plan start lines left by events (now a.session written faults a.around)
+going_still kept tells plan start a lines left by events written faults p = record {
   asked = p.asked;
   first = p.first;
   no_sooner = p.no_sooner;
@@ -182,6 +190,7 @@ going_still tells start a lines left by events written faults p = record {
   limit = p.limit;
   causes = p.causes;
   steps = p.steps;
+  disk_faults = p.disk_faults;
   remote_faults = p.remote_faults;
   changes = p.changes;
   more = p.more;
@@ -194,16 +203,16 @@ going_still tells start a lines left by events written faults p = record {
 shorter_past : (w0 w1 : Option (List ℕ)) (text front more : List ℕ) → text ≡ front ++ more → AppendsPast w0 w1 text → AppendsPast w0 w1 front
 shorter_past w0 w1 text front more e p = (more ++ p.0, subst (Appends w0 w1) (ap (λ l. l ++ p.0) e ∙ append_assoc front more p.0) p.1)
 
-all_gone : (tells : Type 0) (start a : Now) (lines : List Line) (p : Phase) (written : Option (List ℕ)) (faults : ℕ) (r : Result (Unit {0}) Unwritten)
-    → IsUnderWay tells start lines [] p a → Writes a.written written a.faults faults (replies (drop p.before a.session.records)) r → HasGone tells lines start (now a.session a.remote written faults a.moment) r
-all_gone tells start a lines p written faults r u x = record {
+all_gone : (kept tells : Type 0) (plan : Plan) (start a : Now) (lines : List Line) (p : Phase) (written : Option (List ℕ)) (faults : ℕ) (r : Result (Unit {0}) Unwritten)
+    → IsUnderWay kept tells plan start lines [] p a → Writes a.written written a.faults faults (replies (drop p.before a.session.records)) r → HasGone kept tells plan lines start (now a.session written faults a.around) r
+all_gone kept tells plan start a lines p written faults r u x = record {
   by = p.by;
   left = [];
   events = u.events;
-  going = going_still tells start a lines [] p.by u.events written faults u.going;
+  going = going_still kept tells plan start.around a lines [] p.by u.events written faults u.going;
   all = on_ok r refl;
   text = subst (λ text. Writes start.written written start.faults faults text r)
-      (ap (λ l. texts_of (earlier u.events) ++ l) (replies_left tells start a lines [] p u.events u.going u.told) ∙ sym (told_and_pending u.events))
+      (ap (λ l. texts_of (earlier u.events) ++ l) (replies_left kept tells plan start a lines [] p u.events u.going u.told) ∙ sym (told_and_pending u.events))
       (writes_twice start.written a.written written start.faults a.faults faults (texts_of (earlier u.events)) (replies (drop p.before a.session.records)) r (told_writes start a p u.events u.told) x);
   most = let l = last_told u.events in
       shorter_past start.written written (texts_of (earlier u.events)) (texts_of (before_last u.events)) l.0 l.1
@@ -212,7 +221,7 @@ all_gone tells start a lines p written faults r u x = record {
 }
 
 -- all lines were done, and then the replies of the last phase were written or not
-pub gone_at : (tells : Type 0) (start a : Now) (lines : List Line) (i : ℕ) (p : Phase) (written : Option (List ℕ)) (faults : ℕ) (r : Result (Unit {0}) Unwritten) → length lines ≤ i
-    → IsUnderWay tells start lines (drop i lines) p a → Writes a.written written a.faults faults (replies (drop p.before a.session.records)) r → HasGone tells lines start (now a.session a.remote written faults a.moment) r
-gone_at tells start a lines i p written faults r past u x =
-    all_gone tells start a lines p written faults r (subst (λ left. IsUnderWay tells start lines left p a) (drop_of_length-le lines past) u) x
+pub gone_at : (kept tells : Type 0) (plan : Plan) (start a : Now) (lines : List Line) (i : ℕ) (p : Phase) (written : Option (List ℕ)) (faults : ℕ) (r : Result (Unit {0}) Unwritten) → length lines ≤ i
+    → IsUnderWay kept tells plan start lines (drop i lines) p a → Writes a.written written a.faults faults (replies (drop p.before a.session.records)) r → HasGone kept tells plan lines start (now a.session written faults a.around) r
+gone_at kept tells plan start a lines i p written faults r past u x =
+    all_gone kept tells plan start a lines p written faults r (subst (λ left. IsUnderWay kept tells plan start lines left p a) (drop_of_length-le lines past) u) x

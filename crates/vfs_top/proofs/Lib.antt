@@ -6,5 +6,6 @@ mod Going
 mod Joining
 mod Phased
 mod Pieces
+pub mod Still
 pub mod Texts
 mod Told

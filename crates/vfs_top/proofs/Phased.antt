@@ -17,7 +17,7 @@ use Rattle.item_core.specs.declared.entry.Entry.{Entry}
 use Rattle.session_script.specs.declared.call.Call.{Call}
 use Rattle.session_script.specs.declared.call.Call.TheVariants as call
 use Rattle.session_text.specs.declared.reply.Record.{Record}
-use Rattle.one_session.specs.Calls.{AfterLook, CloseAdds, FailsAt, ListsOnce, MissesPath, OpenAdds, OpensFile, OpensPath, ShowsDir, ShowsNothing, ShowsObject, TreeDoes, WasDirty, WasHeld, in_tree, refused_open}
+use Rattle.one_session.specs.Calls.{AfterLook, CloseAdds, FailsAt, ListsOnce, MayBegin, MissesPath, OpenAdds, OpensFile, OpensPath, ShowsDir, ShowsNothing, ShowsObject, TreeDoes, WasDirty, WasHeld, in_tree, refused_open}
 use Rattle.one_session.specs.Matching.{IsStep, entries_of}
 use Rattle.one_session.specs.Served.{Served, TreeMatches, in_tree_of, tree_place}
 use Rattle.one_session.specs.State.{History}
@@ -69,7 +69,8 @@ open_by by files path how r before added (inr (inl (x, p))) = misses_by by path 
 open_by by files path how r before added (inr (inr (inl (x, p)))) = fails_by by path before added p
 open_by by files path how r before added (inr (inr (inr (inl (x, p))))) = after_look_by by before added (refused_open by path why.IsDir ∷ []) (ShowsDir path) p (refl, tt)
 open_by by files path how r before added (inr (inr (inr (inr (inl (x, p)))))) = after_look_by by before added (refused_open by path why.TooBig ∷ []) (ShowsObject path) p (refl, tt)
-open_by by files path how r before added (inr (inr (inr (inr (inr (x, p)))))) = after_look_by by before added [] (ShowsObject path) p tt
+open_by by files path how r before added (inr (inr (inr (inr (inr (inl (x, p))))))) = after_look_by by before added (refused_open by path why.DiskFault ∷ []) (MayBegin path how) p (refl, tt)
+open_by by files path how r before added (inr (inr (inr (inr (inr (inr (x, p))))))) = after_look_by by before added [] (MayBegin path how) p tt
 
 close_by : (by : By) (files : List History) (r : Record) (added : List TreeEntry) → CloseAdds by files r added → AreBy by added
 close_by by files r added p =

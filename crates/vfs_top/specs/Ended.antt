@@ -1,10 +1,14 @@
 -- How a run ends.
-use Rattle.std.specs.Prelude.{◌≡◌, ◌⊎◌, ℕ, ◌++◌, Option, List, [], ◌∷◌, Result, OnOk}
+use Rattle.std.specs.Prelude.{◌≡◌, ◌⊎◌, ℕ, ◌++◌, IsSome, Option, List, [], ◌∷◌, Result, OnOk}
 use Rattle.std.specs.Io.KnownBytes.{Appends}
 use Rattle.vfs_outside.specs.Causes.{AppendsFront, Rose}
-use Rattle.vfs_outside.specs.Outside.{Outside}
+use Rattle.vfs_outside.specs.Image.{meta_in}
+use Rattle.vfs_outside.specs.Slot.{image}
+use Rattle.downloaders.specs.declared.Plan.{Plan}
+use Rattle.run_words.specs.Words.{Asked}
 use Rattle.session_script.specs.declared.call.Line.{Line}
 use Rattle.session_text.specs.Lines.{end_text, start_text}
+use Rattle.vfs_top.specs.Around.{Around, IsStill}
 use Rattle.vfs_top.specs.Epoch.{Epoch}
 use Rattle.vfs_top.specs.Event.{Event, before_last}
 use Rattle.vfs_top.specs.Phases.{DoesFront, IsEpoch}
@@ -17,29 +21,28 @@ use Rattle.vfs_top.specs.declared.stop.Stop.TheVariants as stops
 use Rattle.vfs_top.specs.declared.write.Unwritten.{Unwritten}
 
 -- what the things outside tell at a moment: what the source has left, what the sink holds, how often each of the two
--- failed, the clock's last answer, and the remote's counts
+-- failed, and what the others tell
 pub record Told : Type 0 where
   pub left : Option (List ℕ)
   pub source_faults : ℕ
   pub written : Option (List ℕ)
   pub sink_faults : ℕ
-  pub moment : ℕ
-  pub remote : Outside
+  pub around : Around
 
-abbrev pub told : Option (List ℕ) → ℕ → Option (List ℕ) → ℕ → ℕ → Outside → Told
-told left source_faults written sink_faults moment remote =
-    record { left = left; source_faults = source_faults; written = written; sink_faults = sink_faults; moment = moment; remote = remote }
+abbrev pub told : Option (List ℕ) → ℕ → Option (List ℕ) → ℕ → Around → Told
+told left source_faults written sink_faults around =
+    record { left = left; source_faults = source_faults; written = written; sink_faults = sink_faults; around = around }
 
 -- what is printed of a run with one epoch, in which these events came about
 abbrev pub printed : List Event → Epoch → List ℕ
 printed events e = transcript ((shown_in events, e) ∷ [])
 
 -- All lines were done in one epoch, and the whole transcript was written.
-pub record DoesAll (tells : Type 0) (written written' : Option (List ℕ)) (before after : ℕ) (old new : Outside) (script : List Line) (epochs : List Epoch) : Type 0 where
+pub record DoesAll (kept tells : Type 0) (plan : Plan) (written written' : Option (List ℕ)) (old new : Around) (script : List Line) (epochs : List Epoch) : Type 0 where
   pub epoch : Epoch
-  pub kept : epochs ≡ epoch ∷ []
+  pub only : epochs ≡ epoch ∷ []
   pub events : List Event
-  pub did : IsEpoch tells before after old new script events epoch
+  pub did : IsEpoch kept tells plan old new script events epoch
   pub text : Appends written written' (printed events epoch)
 
 -- nothing was done, or the start was written and all that was shown before the last phase in which something was done
@@ -48,107 +51,128 @@ WasTold written written' events = (events ≡ []) ⊎ AppendsPast written writte
 
 -- A front of the lines was done, and a front of their transcript was written. A phase was begun only once all was written that
 -- those before it showed.
-pub record DoesSome (tells : Type 0) (written written' : Option (List ℕ)) (before after : ℕ) (old new : Outside) (script : List Line) (epochs : List Epoch) : Type 0 where
+pub record DoesSome (kept tells : Type 0) (plan : Plan) (written written' : Option (List ℕ)) (old new : Around) (script : List Line) (epochs : List Epoch) : Type 0 where
   pub epoch : Epoch
-  pub kept : epochs ≡ epoch ∷ []
+  pub only : epochs ≡ epoch ∷ []
   pub events : List Event
-  pub did : DoesFront tells before after old new script events epoch
+  pub did : DoesFront kept tells plan old new script events epoch
   pub text : AppendsFront written written' (printed events epoch)
   pub told : WasTold written written' events
 
 -- Once the start was written: what the lines showed was written, and the end, or not. Nothing was done in a phase before all
 -- was written that those before it showed.
-pub record RunsLines (tells : Type 0) (written written' : Option (List ℕ)) (faults faults' before after : ℕ) (old new : Outside) (script : List Line) (e : Epoch) (result : Result (Unit {0}) Unwritten) : Type 0 where
+pub record RunsLines (kept tells : Type 0) (plan : Plan) (written written' : Option (List ℕ)) (faults faults' : ℕ) (old new : Around) (script : List Line) (e : Epoch) (result : Result (Unit {0}) Unwritten) : Type 0 where
   pub events : List Event
-  pub did : DoesFront tells before after old new script events e
-  pub all : OnOk result (IsEpoch tells before after old new script events e)
+  pub did : DoesFront kept tells plan old new script events e
+  pub all : OnOk result (IsEpoch kept tells plan old new script events e)
   pub text : Writes written written' faults faults' (texts_of events ++ (end_block e ++ end_text 0)) result
   pub told : AppendsPast written written' (texts_of (before_last events))
 
 -- an epoch of these lines was run, and written or not
-pub record RunsEpoch (tells : Type 0) (written written' : Option (List ℕ)) (faults faults' before after : ℕ) (old new : Outside) (script : List Line) (e : Epoch) (result : Result (Unit {0}) Unwritten) : Type 0 where
+pub record RunsEpoch (kept tells : Type 0) (plan : Plan) (written written' : Option (List ℕ)) (faults faults' : ℕ) (old new : Around) (script : List Line) (e : Epoch) (result : Result (Unit {0}) Unwritten) : Type 0 where
   pub events : List Event
-  pub did : DoesFront tells before after old new script events e
-  pub all : OnOk result (IsEpoch tells before after old new script events e)
+  pub did : DoesFront kept tells plan old new script events e
+  pub all : OnOk result (IsEpoch kept tells plan old new script events e)
   pub text : Writes written written' faults faults' (printed events e) result
   pub told : WasTold written written' events
 
 -- nothing was done or written
-pub record DoesNothing (written written' : Option (List ℕ)) (epochs : List Epoch) : Type 0 where
+pub record DoesNothing (kept : Type 0) (written written' : Option (List ℕ)) (old new : Around) (epochs : List Epoch) : Type 0 where
   pub none : epochs ≡ []
   pub same : written' ≡ written
+  pub still : IsStill kept old.disk new.disk
 
 -- the words are those of a run, the source was read to its end, and its script was done
-pub record Done (tells : Type 0) (words : List (List ℕ)) (old new : Told) (epochs : List Epoch) : Type 0 where
+pub record Done (kept tells : Type 0) (words : List (List ℕ)) (old new : Told) (epochs : List Epoch) : Type 0 where
+  pub asked : Asked
   pub script : List Line
-  pub ready : IsReady words old.left new.left script
-  pub all : DoesAll tells old.written new.written old.moment new.moment old.remote new.remote script epochs
+  pub ready : IsReady words old.left new.left asked script
+  pub all : DoesAll kept tells asked.plan old.written new.written old.around new.around script epochs
 
--- the script was read, and then the remote couldn't be attached
-pub record FailsToAttach (words : List (List ℕ)) (old new : Told) (stop : Stop) : Type 0 where
-  pub is : stop ≡ stops.Remote
+-- why no line is done once the script was read: the remote or the disk couldn't be attached, or a slot has metadata
+abbrev pub StartCause : Type 0 → Around → Around → Stop → Type 0
+StartCause kept old new stops.Usage = ⊥
+StartCause kept old new (stops.Refused n reason) = ⊥
+StartCause kept old new stops.Source = ⊥
+StartCause kept old new (stops.Limit what) = ⊥
+StartCause kept old new stops.Remote = Rose old.remote.faults new.remote.faults
+StartCause kept old new stops.Disk = Rose old.disk.faults new.disk.faults
+StartCause kept old new stops.Slots = kept → (slot : ℕ) × IsSome (meta_in (image (old.disk.shelf slot).now))
+StartCause kept old new stops.NoMemory = Unit {0}
+
+-- the script was read, and then no line was done
+pub record FailsToStart (kept : Type 0) (words : List (List ℕ)) (old new : Told) (stop : Stop) : Type 0 where
+  pub asked : Asked
   pub script : List Line
-  pub ready : IsReady words old.left new.left script
-  pub rose : Rose old.remote.faults new.remote.faults
+  pub ready : IsReady words old.left new.left asked script
+  pub cause : StartCause kept old.around new.around stop
 
 -- why no call was run
-abbrev pub IsStop : List (List ℕ) → Told → Told → Stop → Type 0
-IsStop words old new stop = Stops words old.left new.left old.source_faults new.source_faults stop ⊎ FailsToAttach words old new stop
+abbrev pub IsStop : Type 0 → List (List ℕ) → Told → Told → Stop → Type 0
+IsStop kept words old new stop = Stops words old.left new.left old.source_faults new.source_faults stop ⊎ FailsToStart kept words old new stop
 
--- no call was run, and the reason was written
-pub record Stopped (words : List (List ℕ)) (old new : Told) (status : ℕ) (epochs : List Epoch) : Type 0 where
+-- no call was run, the reason was written, and the disk has what it had
+pub record Stopped (kept : Type 0) (words : List (List ℕ)) (old new : Told) (status : ℕ) (epochs : List Epoch) : Type 0 where
   pub stop : Stop
   pub ends : status ≡ status_of stop
-  pub cause : IsStop words old new stop
+  pub cause : IsStop kept words old new stop
   pub text : Appends old.written new.written (stop_text stop)
   pub none : epochs ≡ []
+  pub still : IsStill kept old.around.disk new.around.disk
 
--- a front of the reason why no call was run was written
-pub record BreaksStop (words : List (List ℕ)) (old new : Told) (epochs : List Epoch) : Type 0 where
+-- a front of the reason why no call was run was written, and the disk has what it had
+pub record BreaksStop (kept : Type 0) (words : List (List ℕ)) (old new : Told) (epochs : List Epoch) : Type 0 where
   pub stop : Stop
-  pub cause : IsStop words old new stop
+  pub cause : IsStop kept words old new stop
   pub text : AppendsFront old.written new.written (stop_text stop)
   pub none : epochs ≡ []
+  pub still : IsStill kept old.around.disk new.around.disk
 
 -- a front of the script was done, and a front of its transcript was written
-pub record BreaksRun (tells : Type 0) (words : List (List ℕ)) (old new : Told) (epochs : List Epoch) : Type 0 where
+pub record BreaksRun (kept tells : Type 0) (words : List (List ℕ)) (old new : Told) (epochs : List Epoch) : Type 0 where
+  pub asked : Asked
   pub script : List Line
-  pub ready : IsReady words old.left new.left script
-  pub some : DoesSome tells old.written new.written old.moment new.moment old.remote new.remote script epochs
+  pub ready : IsReady words old.left new.left asked script
+  pub some : DoesSome kept tells asked.plan old.written new.written old.around new.around script epochs
 
 -- a front of what would have been written was written, and each reply in it stands in the epochs
-abbrev pub Breaks : Type 0 → List (List ℕ) → Told → Told → List Epoch → Type 0
-Breaks tells words old new epochs = BreaksStop words old new epochs ⊎ BreaksRun tells words old new epochs
+abbrev pub Breaks : Type 0 → Type 0 → List (List ℕ) → Told → Told → List Epoch → Type 0
+Breaks kept tells words old new epochs = BreaksStop kept words old new epochs ⊎ BreaksRun kept tells words old new epochs
 
 -- the sink failed
-pub record Broken (tells : Type 0) (words : List (List ℕ)) (old new : Told) (epochs : List Epoch) : Type 0 where
+pub record Broken (kept tells : Type 0) (words : List (List ℕ)) (old new : Told) (epochs : List Epoch) : Type 0 where
   pub rose : Rose old.sink_faults new.sink_faults
-  pub front : Breaks tells words old new epochs
+  pub front : Breaks kept tells words old new epochs
 
 -- memory was wanting: behind what was written till then comes a front of the lines that say so
-pub record Starved (tells : Type 0) (words : List (List ℕ)) (old new : Told) (epochs : List Epoch) : Type 0 where
+pub record Starved (kept tells : Type 0) (words : List (List ℕ)) (old new : Told) (epochs : List Epoch) : Type 0 where
   pub between : Option (List ℕ)
-  pub front : Breaks tells words old (record new { written = between }) epochs
+  pub front : Breaks kept tells words old (record new { written = between }) epochs
   pub text : AppendsFront between new.written no_memory_text
 
--- the remote couldn't be attached, and this was written
-pub record DoesStop (written written' : Option (List ℕ)) (old new : Outside) (epochs : List Epoch) : Type 0 where
-  pub rose : Rose old.faults new.faults
-  pub text : Appends written written' (stop_text stops.Remote)
+-- once the script was read, no line was done, and the reason was written
+pub record DoesStop (kept : Type 0) (written written' : Option (List ℕ)) (old new : Around) (status : ℕ) (epochs : List Epoch) : Type 0 where
+  pub stop : Stop
+  pub ends : status ≡ status_of stop
+  pub cause : StartCause kept old new stop
+  pub text : Appends written written' (stop_text stop)
   pub none : epochs ≡ []
+  pub still : IsStill kept old.disk new.disk
 
 -- or a front of it
-pub record BreaksAttach (written written' : Option (List ℕ)) (old new : Outside) (epochs : List Epoch) : Type 0 where
-  pub rose : Rose old.faults new.faults
-  pub text : AppendsFront written written' (stop_text stops.Remote)
+pub record BreaksStart (kept : Type 0) (written written' : Option (List ℕ)) (old new : Around) (epochs : List Epoch) : Type 0 where
+  pub stop : Stop
+  pub cause : StartCause kept old new stop
+  pub text : AppendsFront written written' (stop_text stop)
   pub none : epochs ≡ []
+  pub still : IsStill kept old.disk new.disk
 
 -- a front of what would have been written was written, once the script was read
-abbrev pub BreaksAttached : Type 0 → Option (List ℕ) → Option (List ℕ) → ℕ → ℕ → Outside → Outside → List Line → List Epoch → Type 0
-BreaksAttached tells written written' before after old new script epochs =
-    BreaksAttach written written' old new epochs ⊎ DoesSome tells written written' before after old new script epochs
+abbrev pub BreaksStarted : Type 0 → Type 0 → Plan → Option (List ℕ) → Option (List ℕ) → Around → Around → List Line → List Epoch → Type 0
+BreaksStarted kept tells plan written written' old new script epochs =
+    BreaksStart kept written written' old new epochs ⊎ DoesSome kept tells plan written written' old new script epochs
 
 -- memory was wanting, once the script was read
-abbrev pub StarvesAttached : Type 0 → Option (List ℕ) → Option (List ℕ) → ℕ → ℕ → Outside → Outside → List Line → List Epoch → Type 0
-StarvesAttached tells written written' before after old new script epochs =
-    DoesNothing written written' epochs ⊎ BreaksAttached tells written written' before after old new script epochs
+abbrev pub StarvesStarted : Type 0 → Type 0 → Plan → Option (List ℕ) → Option (List ℕ) → Around → Around → List Line → List Epoch → Type 0
+StarvesStarted kept tells plan written written' old new script epochs =
+    DoesNothing kept written written' old new epochs ⊎ BreaksStarted kept tells plan written written' old new script epochs

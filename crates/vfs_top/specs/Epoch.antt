@@ -14,7 +14,7 @@ pub record Epoch : Type 0 where
   pub records : List Record
   pub steps : List Step
 
-abbrev pub epoch_of : {O S : Type 0} → EpochLog O S → Epoch
+abbrev pub epoch_of : {O F S : Type 0} → EpochLog O F S → Epoch
 epoch_of log = record {
   tree = log.tree.items;
   files = map history_of log.files.items;

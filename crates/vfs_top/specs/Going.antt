@@ -4,7 +4,7 @@ use Rattle.std.specs.List.{AllByRecursion}
 use Rattle.std.specs.Io.KnownBytes.{Appends}
 use Rattle.vfs_names.specs.declared.fingerprint.Fingerprint.{Fingerprint}
 use Rattle.vfs_names.specs.declared.who.By.{By}
-use Rattle.vfs_outside.specs.Outside.{Outside}
+use Rattle.downloaders.specs.declared.Plan.{Plan}
 use Rattle.session_script.specs.declared.call.CallLine.{CallLine}
 use Rattle.session_script.specs.declared.call.Line.{Line}
 use Rattle.session_script.specs.declared.call.What.{What}
@@ -12,11 +12,13 @@ use Rattle.session_script.specs.declared.call.What.TheVariants as what
 use Rattle.session_text.specs.declared.reply.Record.{Record}
 use Rattle.session_text.specs.declared.shown.Shown.TheVariants.{Replied}
 use Rattle.session_text.specs.Lines.{join_text}
-use Rattle.memory_item.specs.Known.{Holds}
-use Rattle.one_session.specs.Causes.{AreGiven, AreSteps, HasRemoteCause, TakesStep}
-use Rattle.one_session.specs.Served.{Fits, IsServable, Served, Serves}
+use Rattle.one_session.specs.Causes.{AreGiven, HasRemoteCause}
+use Rattle.one_session.specs.Served.{Fits, IsServable, Knows, Served, Serves}
 use Rattle.one_session.specs.State.{State}
+use Rattle.one_session.specs.Steps.{AreSteps, TakesStep}
+use Rattle.one_session.specs.Views.{given_all}
 use Rattle.one_session.specs.Whole.{IsUpTo}
+use Rattle.vfs_top.specs.Around.{Around}
 use Rattle.vfs_top.specs.Event.{Event, AreTimely, before_last, calls_of, earlier, line_of, maker_at, moment_after, phase_after}
 use Rattle.vfs_top.specs.Phases.{history_limit}
 use Rattle.vfs_top.specs.Transcript.{shown_texts, texts_of}
@@ -38,98 +40,99 @@ abbrev pub CanDoAll : List Line → Type 0
 CanDoAll [] = Unit {0}
 CanDoAll (line ∷ lines) = CanDo line.line line.what × CanDoAll lines
 
--- no object stands behind a file yet, and no call was made
+-- there is no file yet, and no call was made
 pub record IsUntouched (s : State) : Type 0 where
-  pub behind : s.behind ≡ []
+  pub items : s.items ≡ []
   pub steps : s.steps ≡ []
 
--- what a run tells at a moment: its session, its remote, what the sink holds, how often it failed, and the clock's last answer
+-- what a run tells at a moment: its session, what the sink holds, how often it failed, and what the other things outside tell
 pub record Now : Type 0 where
   pub session : State
-  pub remote : Outside
   pub written : Option (List ℕ)
   pub faults : ℕ
-  pub moment : ℕ
+  pub around : Around
 
-abbrev pub now : State → Outside → Option (List ℕ) → ℕ → ℕ → Now
-now session remote written faults moment =
-    record { session = session; remote = remote; written = written; faults = faults; moment = moment }
+abbrev pub now : State → Option (List ℕ) → ℕ → Around → Now
+now session written faults around = record { session = session; written = written; faults = faults; around = around }
 
 -- a call was served, and nothing was written
-pub record MakesCall (tells : Type 0) (by : By) (c : CallLine) (a b : Now) : Type 0 where
+pub record MakesCall (kept tells : Type 0) (plan : Plan) (by : By) (c : CallLine) (a b : Now) : Type 0 where
   pub done : Record
-  pub serves : Serves 1 tells a.remote.handed b.remote.handed by c done a.session b.session
-  pub cause : HasRemoteCause c.call done b.session.tree a.remote b.remote
-  pub step : TakesStep c.call done a.session b.session
-  pub given : AreGiven tells b.remote.handed b.session.pairs
+  pub serves : Serves 1 kept tells a.around.remote.handed b.around.remote.handed by c done a.session b.session
+  pub cause : HasRemoteCause c.call done b.session.tree a.around.remote b.around.remote
+  pub step : TakesStep plan a.around.disk.faults b.around.disk.faults c.call done a.session b.session
+  pub disk : a.around.disk.faults ≤ b.around.disk.faults
+  pub given : AreGiven tells b.around.remote.handed (given_all b.session.items)
   pub later : IsUpTo by b.session.files
   pub room : a.session.room ≤ b.session.room + 1
   pub written : b.written ≡ a.written
   pub faults : b.faults ≡ a.faults
-  pub moment : b.moment ≡ a.moment
+  pub moment : b.around.moment ≡ a.around.moment
 
 -- Line n ended a phase. What its calls showed and the line's own text were written; where that was done the next phase begins
 -- at the clock's answer.
 pub record EndsPhase (n : ℕ) (p q : Phase) (a b : Now) (result : Result (Unit {0}) Unwritten) : Type 0 where
   pub text : Writes a.written b.written a.faults b.faults (shown_texts (map Replied (drop p.before a.session.records)) ++ join_text n) result
-  pub by : OnOk result (q.by ≡ maker_at (p.by.who.phase + 1) b.moment)
+  pub by : OnOk result (q.by ≡ maker_at (p.by.who.phase + 1) b.around.moment)
   pub before : OnOk result (q.before ≡ length a.session.records)
-  pub moment : a.moment ≤ b.moment
+  pub moment : a.around.moment ≤ b.around.moment
   pub session : b.session ≡ a.session
-  pub remote : b.remote ≡ a.remote
+  pub remote : b.around.remote ≡ a.around.remote
+  pub disk : b.around.disk ≡ a.around.disk
 
 -- what is asked for was done
-abbrev pub DoesLine : Type 0 → ℕ → What → Phase → Phase → Now → Now → Result (Unit {0}) Unwritten → Type 0
-DoesLine tells n (what.Call c) p q a b result = MakesCall tells p.by c a b × (q ≡ p) × (result ≡ Ok tt)
-DoesLine tells n (what.Advance ms) p q a b result = ⊥
-DoesLine tells n what.Tick p q a b result = ⊥
-DoesLine tells n what.Clean p q a b result = ⊥
-DoesLine tells n what.Poll p q a b result = ⊥
-DoesLine tells n what.Join p q a b result = EndsPhase n p q a b result
-DoesLine tells n what.Restart p q a b result = ⊥
+abbrev pub DoesLine : Type 0 → Type 0 → Plan → ℕ → What → Phase → Phase → Now → Now → Result (Unit {0}) Unwritten → Type 0
+DoesLine kept tells plan n (what.Call c) p q a b result = MakesCall kept tells plan p.by c a b × (q ≡ p) × (result ≡ Ok tt)
+DoesLine kept tells plan n (what.Advance ms) p q a b result = ⊥
+DoesLine kept tells plan n what.Tick p q a b result = ⊥
+DoesLine kept tells plan n what.Clean p q a b result = ⊥
+DoesLine kept tells plan n what.Poll p q a b result = ⊥
+DoesLine kept tells plan n what.Join p q a b result = EndsPhase n p q a b result
+DoesLine kept tells plan n what.Restart p q a b result = ⊥
 
 -- An epoch so far: these events came about, the newest first, some lines are left, and there is room for their records. No
 -- entry is of a later moment than the phase that is under way.
-pub record IsGoing (tells : Type 0) (start : Now) (lines left : List Line) (by : By) (events : List Event) (a : Now) : Type 0 where
+pub record IsGoing (kept tells : Type 0) (plan : Plan) (start : Around) (lines left : List Line) (by : By) (events : List Event) (a : Now) : Type 0 where
   pub asked : map line_of (reverse events) ++ left ≡ lines
   pub first : ℕ
   pub no_sooner : start.moment ≤ first
   pub timely : AreTimely first events
-  pub is_now : moment_after first events ≡ a.moment
+  pub is_now : moment_after first events ≡ a.around.moment
   pub maker : by ≡ maker_at (phase_after events) (moment_after first events)
   pub later : IsUpTo by a.session.files
-  pub fits : Fits 1 (Holds tells a.remote.handed) (calls_of events) a.session
-  pub given : AreGiven tells a.remote.handed a.session.pairs
+  pub fits : Fits 1 (Knows kept tells a.around.remote.handed) (calls_of events) a.session
+  pub given : AreGiven tells a.around.remote.handed (given_all a.session.items)
   pub limit : a.session.limit ≡ history_limit
-  pub causes : AllByRecursion (λ (d : Served). HasRemoteCause d.line.call d.done a.session.tree start.remote a.remote) (calls_of events)
-  pub steps : AreSteps a.session.behind (calls_of events) (reverse a.session.steps)
-  pub remote_faults : start.remote.faults ≤ a.remote.faults
-  pub changes : start.remote.changes ≤ a.remote.changes
+  pub causes : AllByRecursion (λ (d : Served). HasRemoteCause d.line.call d.done a.session.tree start.remote a.around.remote) (calls_of events)
+  pub steps : AreSteps plan start.disk.faults a.around.disk.faults a.session.items (calls_of events) (reverse a.session.steps)
+  pub disk_faults : start.disk.faults ≤ a.around.disk.faults
+  pub remote_faults : start.remote.faults ≤ a.around.remote.faults
+  pub changes : start.remote.changes ≤ a.around.remote.changes
   pub more : List (Fingerprint × List ℕ)
-  pub handed : a.remote.handed ≡ more ++ start.remote.handed
+  pub handed : a.around.remote.handed ≡ more ++ start.remote.handed
   pub can : CanDoAll left
   pub room : length left ≤ a.session.room
   pub few : phase_after events + length left ≤ 65537
 
 -- what the phases before the one that is under way showed was written, and just their calls were made before it
-pub record IsTold (start : Now) (p : Phase) (events : List Event) (a : Now) : Type 0 where
-  pub text : Appends start.written a.written (texts_of (earlier events))
-  pub faults : start.faults ≤ a.faults
+pub record IsTold (written : Option (List ℕ)) (first : ℕ) (p : Phase) (events : List Event) (a : Now) : Type 0 where
+  pub text : Appends written a.written (texts_of (earlier events))
+  pub faults : first ≤ a.faults
   pub before : p.before ≡ length (calls_of (earlier events))
   pub inside : p.before ≤ length a.session.records
 
 -- both
-pub record IsUnderWay (tells : Type 0) (start : Now) (lines left : List Line) (p : Phase) (a : Now) : Type 0 where
+pub record IsUnderWay (kept tells : Type 0) (plan : Plan) (start : Now) (lines left : List Line) (p : Phase) (a : Now) : Type 0 where
   pub events : List Event
-  pub going : IsGoing tells start lines left p.by events a
-  pub told : IsTold start p events a
+  pub going : IsGoing kept tells plan start.around lines left p.by events a
+  pub told : IsTold start.written start.faults p events a
 
 -- the lines were done, and what they showed was written; or a front of them, where not all that these showed was written
-pub record HasGone (tells : Type 0) (lines : List Line) (start a : Now) (result : Result (Unit {0}) Unwritten) : Type 0 where
+pub record HasGone (kept tells : Type 0) (plan : Plan) (lines : List Line) (start a : Now) (result : Result (Unit {0}) Unwritten) : Type 0 where
   pub by : By
   pub left : List Line
   pub events : List Event
-  pub going : IsGoing tells start lines left by events a
+  pub going : IsGoing kept tells plan start.around lines left by events a
   pub all : OnOk result (left ≡ [])
   pub text : Writes start.written a.written start.faults a.faults (texts_of events) result
   pub most : AppendsPast start.written a.written (texts_of (before_last events))

@@ -1,3 +1,4 @@
+pub mod Around
 pub mod Ended
 pub mod Epoch
 pub mod Event

@@ -4,7 +4,7 @@ use Rattle.std.specs.Io.KnownBytes.{Consumes, IsAtEnd}
 use Rattle.session_script.specs.Limits.{HasTooManyLines, IsTooBig, ReadsTooMuch}
 use Rattle.session_script.specs.Script.{IsScript}
 use Rattle.session_script.specs.declared.call.Line.{Line}
-use Rattle.vfs_top.specs.Words.{IsRow}
+use Rattle.run_words.specs.Words.{Asked, AreWords}
 
 -- the text was read, and nothing is left behind it
 pub record IsWhole (left left' : Option (List ℕ)) (text : List ℕ) : Type 0 where
@@ -24,9 +24,9 @@ pub record IsAllowed (text : List ℕ) (script : List Line) : Type 0 where
   pub says : IsScript text script
   pub short : ¬ ReadsTooMuch script
 
--- the words fit, and the source was read to its end and gave this script
-pub record IsReady (words : List (List ℕ)) (left left' : Option (List ℕ)) (script : List Line) : Type 0 where
-  pub row : IsRow words
+-- the words ask for this, and the source was read to its end and gave this script
+pub record IsReady (words : List (List ℕ)) (left left' : Option (List ℕ)) (asked : Asked) (script : List Line) : Type 0 where
+  pub words_ask : AreWords words asked
   pub text : List ℕ
   pub whole : IsWhole left left' text
   pub allowed : IsAllowed text script

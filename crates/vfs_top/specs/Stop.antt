@@ -11,7 +11,7 @@ use Rattle.session_text.specs.Lines.{end_text}
 use Rattle.vfs_top.specs.Script.{IsTooLong, IsWhole}
 use Rattle.vfs_top.specs.Words.{IsRow}
 use Rattle.vfs_top.specs.declared.stop.Stop.{Stop}
-use Rattle.vfs_top.specs.declared.stop.Stop.TheVariants.{Usage, Refused, Source, Limit as Above, Remote, NoMemory}
+use Rattle.vfs_top.specs.declared.stop.Stop.TheVariants.{Usage, Refused, Source, Limit as Above, Remote, Disk, Slots, NoMemory}
 
 abbrev pub status_of : Stop → ℕ
 status_of Usage = 2
@@ -19,6 +19,8 @@ status_of (Refused n reason) = 3
 status_of Source = 4
 status_of (Above what) = 7
 status_of Remote = 6
+status_of Disk = 6
+status_of Slots = 7
 status_of NoMemory = 8
 
 abbrev pub reason_text : Stop → List ℕ
@@ -27,6 +29,8 @@ reason_text (Refused n reason) = codes "script line " ++ decimal n ++ codes ": "
 reason_text Source = codes "source fault"
 reason_text (Above what) = codes "limit " ++ limit_text what ++ codes " " ++ decimal (most_of what)
 reason_text Remote = codes "remote fault"
+reason_text Disk = codes "disk fault"
+reason_text Slots = codes "limit slots 0"
 reason_text NoMemory = codes "no memory"
 
 -- the reason on a line of its own, and the last line
@@ -50,6 +54,8 @@ RefusesText text (Refused n reason) = (¬ HasTooManyLines text) × IsRefusedAt t
 RefusesText text Source = ⊥
 RefusesText text (Above what) = IsAbove text what
 RefusesText text Remote = ⊥
+RefusesText text Disk = ⊥
+RefusesText text Slots = ⊥
 RefusesText text NoMemory = Unit {0}
 
 -- more came than a script may have, or all was read and is refused
@@ -57,7 +63,7 @@ abbrev pub RefusesScript : Option (List ℕ) → Option (List ℕ) → Stop → 
 RefusesScript left left' (Above limit.Script) = IsTooLong left left'
 RefusesScript left left' stop = (text : List ℕ) × IsWhole left left' text × RefusesText text stop
 
--- why a run of these words stops before its remote is asked for anything, by what the source had left and how often it
+-- why a run of these words stops before its remote and its disk are asked for anything, by what the source had left and how often it
 -- failed, before and after
 abbrev pub Stops : List (List ℕ) → Option (List ℕ) → Option (List ℕ) → ℕ → ℕ → Stop → Type 0
 Stops words left left' before now Usage = (¬ IsRow words) × (left' ≡ left)
@@ -65,4 +71,6 @@ Stops words left left' before now (Refused n reason) = IsRow words × RefusesScr
 Stops words left left' before now Source = IsRow words × Rose before now
 Stops words left left' before now (Above what) = IsRow words × RefusesScript left left' (Above what)
 Stops words left left' before now Remote = ⊥
+Stops words left left' before now Disk = ⊥
+Stops words left left' before now Slots = ⊥
 Stops words left left' before now NoMemory = Unit {0}

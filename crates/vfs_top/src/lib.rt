@@ -9,8 +9,8 @@ mod prepare;
 mod print;
 mod runner;
 mod script;
+mod start;
 mod stop;
-mod words;
 mod write;
 
 pub use runner::{Ended, run};

@@ -2,19 +2,24 @@ ghost use Rattle.std.specs.Prelude.{◌≡◌, ◌<◌, ◌≤◌, ◌+◌, ◌+
 ghost use Rattle.vfs_names.specs.declared.who.Actor.TheVariants.{Session};
 ghost use Rattle.session_text.specs.Lines.{join_text};
 ghost use Rattle.session_text.specs.declared.shown.Shown.TheVariants.{Replied};
+ghost use Rattle.downloaders.specs.Rules.{HasChunk};
 ghost use Rattle.one_session.specs.Causes.{AreGiven};
+ghost use Rattle.one_session.specs.Slots.{Lends};
+ghost use Rattle.one_session.specs.Views.{given_all};
 ghost use Rattle.one_session.specs.Whole.{IsUpTo};
+ghost use Rattle.vfs_top.specs.Around.{around};
 ghost use Rattle.vfs_top.specs.Event.{maker_at};
 ghost use Rattle.vfs_top.specs.Going.{CanDo, DoesLine, now};
 ghost use Rattle.vfs_top.specs.Transcript.{shown_texts};
 ghost use Rattle.vfs_top.specs.Writing.{Writes};
 
 use crate::write::{Unwritten, write_joined};
+use downloaders::Plan;
 use one_session::OneSession;
 use session_script::{Line, What};
 use std::alloc::Global;
 use vfs_names::{Actor, By, Who};
-use vfs_outside::{Clock, Gate, Object, Point, Remote, Sink};
+use vfs_outside::{CacheDisk, CacheFile, Clock, Gate, Object, Point, Remote, Sink};
 
 /// The phase that is under way: who makes the entries of its calls, and how many calls were made before it.
 #[derive(Clone, Copy, Debug)]
@@ -53,11 +58,13 @@ pub fn first_phase<C: Clock>(clock: &mut C) -> Phase
 
 /// Does what a line asks for: makes its call, or ends the phase that is under way and begins the next one. Where the sink
 /// fails none is begun.
-pub fn do_line<K: Sink, R: Remote, C: Clock, G: Gate>(
+pub fn do_line<K: Sink, R: Remote, D: CacheDisk, C: Clock, G: Gate>(
     alloc: Global,
-    session: &mut OneSession<R::Object>,
+    plan: &Plan,
+    session: &mut OneSession<R::Object, D::File>,
     sink: &mut K,
     remote: &mut R,
+    disk: &mut D,
     clock: &mut C,
     phase: &mut Phase,
     line: &Line,
@@ -68,18 +75,24 @@ pub fn do_line<K: Sink, R: Remote, C: Clock, G: Gate>(
     requires actor { phase.old.by.who.actor ≡ Session 1 }
     requires pass { phase.old.by.pass ≡ 0 }
     requires later { IsUpTo phase.old.by session.old.files }
-    requires given { AreGiven R.Object.tells (R.outside remote.old).handed session.old.pairs }
+    requires given { AreGiven R.Object.tells (R.outside remote.old).handed
+        (given_all session.old.items) }
+    requires lends { Lends D.tells (length session.old.files) (D.disk disk.old) }
+    requires chunk { HasChunk plan.now.chunk }
     requires few { phase.old.by.who.phase ≤ 65536 }
     requires before { phase.old.before ≤ length session.old.records }
-    ensures { DoesLine R.Object.tells line.now.line line.now.what phase.old phase.new
-        (now session.old (R.outside remote.old) (K.written sink.old) (K.faults sink.old) (C.moment clock.old))
-        (now session.new (R.outside remote.new) (K.written sink.new) (K.faults sink.new) (C.moment clock.new))
+    ensures does { DoesLine D.File.tells R.Object.tells plan.now line.now.line line.now.what phase.old phase.new
+        (now session.old (K.written sink.old) (K.faults sink.old)
+        (around (C.moment clock.old) (R.outside remote.old) (D.disk disk.old)))
+        (now session.new (K.written sink.new) (K.faults sink.new)
+        (around (C.moment clock.new) (R.outside remote.new) (D.disk disk.new)))
         result }
+    ensures lends { Lends D.tells (length session.new.files) (D.disk disk.new) }
 {
     match &line.what {
         What::Call(call) => {
             gate.before(Point::TreeLock, phase.by.who);
-            session.serve(alloc, remote, phase.by, call);
+            session.serve(alloc, remote, disk, plan, phase.by, call);
             Ok(())
         }
         What::Join => end_phase(alloc, session, sink, clock, phase, line.line),
@@ -88,9 +101,9 @@ pub fn do_line<K: Sink, R: Remote, C: Clock, G: Gate>(
 }
 
 /// Writes what the calls of a phase showed and that this line ended it; the next phase begins then.
-fn end_phase<K: Sink, C: Clock, O: Object>(
+fn end_phase<K: Sink, C: Clock, O: Object, F: CacheFile>(
     alloc: Global,
-    session: &OneSession<O>,
+    session: &OneSession<O, F>,
     sink: &mut K,
     clock: &mut C,
     phase: &mut Phase,

@@ -1,31 +1,49 @@
 ghost use Rattle.std.specs.Prelude.{◌≡◌, ◌≤◌, IfErr, IfOk, length, map, string_bytes};
+ghost use Rattle.downloaders.specs.Rules.{HasChunk};
+ghost use Rattle.run_words.specs.Words.{meaning};
 ghost use Rattle.vfs_top.specs.Going.{CanDoAll};
 ghost use Rattle.vfs_top.specs.Script.{IsAllowed, IsReady, IsTooLong};
 ghost use Rattle.vfs_top.specs.Stop.{RefusesText, Stops};
 
 use crate::input::{Unread, read_all};
 use crate::stop::Stop;
-use crate::words::is_row;
+use run_words::{RunWords, read_words};
 use session_script::{Limit, Script, ScriptError, check_lines, check_reads, read_script};
 use std::alloc::Global;
 use vfs_outside::Source;
 
-/// The script, where the words are those of a run and the script is in the language and within the limits.
-pub fn prepare<S: Source>(alloc: Global, words: &[String], source: &mut S) -> Result<Script, Stop>
-    ensures ready { IfOk result (λ script.
-        IsReady (map string_bytes words.now) (S.left source.old) (S.left source.new) script) }
-    ensures can { IfOk result (λ script. CanDoAll script) }
-    ensures few { IfOk result (λ script. length script ≤ 65536) }
+/// What a run is to do: what its words ask for, and its script.
+#[derive(Drop)]
+pub struct Job<'a> {
+    pub run: RunWords<'a>,
+    pub script: Script,
+}
+
+/// What is to be done, where the words are those of a run and the script is in the language and within the limits.
+pub fn prepare<'a, S: Source>(
+    alloc: Global,
+    words: &'a [String],
+    source: &mut S,
+) -> Result<Job<'a>, Stop>
+    ensures ready { IfOk result (λ job. IsReady (map string_bytes words.now)
+        (S.left source.old) (S.left source.new) (meaning job.run) job.script) }
+    ensures chunk { IfOk result (λ job. HasChunk job.run.plan.chunk) }
+    ensures can { IfOk result (λ job. CanDoAll job.script) }
+    ensures few { IfOk result (λ job. length job.script ≤ 65536) }
     ensures stops { IfErr result (λ stop. Stops (map string_bytes words.now)
         (S.left source.old) (S.left source.new) (S.faults source.old) (S.faults source.new) stop) }
     ensures later { S.faults source.old ≤ S.faults source.new }
 {
-    if !is_row(words) {
+    let Ok(run) = read_words(words) else {
         return Err(Stop::Usage);
-    }
-    match read_all(alloc, source) {
-        Ok(text) => read_text(alloc, &text),
-        Err(why) => Err(stop_of(why)),
+    };
+    let text = match read_all(alloc, source) {
+        Ok(text) => text,
+        Err(why) => return Err(stop_of(why)),
+    };
+    match read_text(alloc, &text) {
+        Ok(script) => Ok(Job { run, script }),
+        Err(stop) => Err(stop),
     }
 }
 

@@ -11,7 +11,7 @@ use session_text::{
 };
 use std::alloc::Global;
 use vfs_names::{Blob, ItemId, NoMemory, QueueRow};
-use vfs_outside::Object;
+use vfs_outside::{CacheFile, Object};
 
 /// When a file that waits is due, in milliseconds.
 const DUE: u64 = 5000;
@@ -35,10 +35,10 @@ pub fn print_joined(out: &mut Blob, records: &[Record], line: u32) -> Result<(),
 }
 
 /// Appends the histories of an epoch, the queue, and the last line.
-pub fn print_ending<O: Object>(
+pub fn print_ending<O: Object, F: CacheFile>(
     alloc: Global,
     out: &mut Blob,
-    log: &EpochLog<O>,
+    log: &EpochLog<O, F>,
 ) -> Result<(), NoMemory>
     ensures { OnOk result (out.new ≡ out.old ++ (end_block (epoch_of log.now) ++ end_text 0)) }
 {

@@ -1,8 +1,10 @@
 ghost use Rattle.std.specs.Prelude.{◌≡◌, ◌≢◌, ◌≤◌, ◌<◌, ◌⊎◌, ◌++◌, ℕ, List, [], ◌∷◌, length, map, vec_capacity, vec_len, IfOk};
 ghost use Rattle.vfs_names.specs.declared.fingerprint.Fingerprint.{Fingerprint};
 ghost use Rattle.vfs_outside.specs.Causes.{Rose};
-ghost use Rattle.memory_item.specs.Known.{Holds};
-ghost use Rattle.one_session.specs.Served.{Fits};
+ghost use Rattle.downloaders.specs.Rules.{HasChunk};
+ghost use Rattle.one_session.specs.Served.{Fits, Knows};
+ghost use Rattle.one_session.specs.Slots.{Lends};
+ghost use Rattle.vfs_top.specs.Around.{around};
 ghost use Rattle.vfs_top.specs.Ended.{DoesAll, DoesNothing, DoesSome};
 ghost use Rattle.vfs_top.specs.Epoch.{epoch_of};
 ghost use Rattle.vfs_top.specs.Going.{CanDoAll, IsUntouched};
@@ -10,43 +12,56 @@ ghost use Rattle.vfs_top.specs.Phases.{history_limit};
 
 use crate::epoch::{Ran, run_epoch};
 use crate::write::Unwritten;
+use downloaders::Plan;
 use one_session::{EpochLog, OneSession};
 use session_script::Line;
 use std::alloc::Global;
 use vfs_names::NoMemory;
-use vfs_outside::{Clock, Gate, Object, Remote, Sink};
+use vfs_outside::{CacheDisk, CacheFile, Clock, Gate, Object, Remote, Sink};
 
 /// The most places of a history.
 const HISTORY_LIMIT: u32 = 1_048_576;
 
 /// The status that a run ends with, and what was kept of its epochs.
 #[derive(Drop)]
-pub struct Kept<O: Object> {
+pub struct Kept<O: Object, F: CacheFile> {
     pub status: u8,
-    pub epochs: Vec<EpochLog<O>>,
+    pub epochs: Vec<EpochLog<O, F>>,
 }
 
 /// Does the lines of a script. Its memory for what is kept is taken first, so that no record of a call that was done is
 /// lost. The status is 0, 5 or 8.
-pub fn run_script<K: Sink, R: Remote, C: Clock, G: Gate>(
+pub fn run_script<K: Sink, R: Remote, D: CacheDisk, C: Clock, G: Gate>(
     alloc: Global,
+    plan: &Plan,
     sink: &mut K,
     remote: &mut R,
+    disk: &mut D,
     clock: &mut C,
     lines: &[Line],
     gate: &G,
-) -> Kept<R::Object>
+) -> Kept<R::Object, D::File>
+    requires lends { Lends D.tells 0 (D.disk disk.old) }
+    requires chunk { HasChunk plan.now.chunk }
     requires can { CanDoAll lines.now }
     requires few { length lines.now ≤ 65536 }
-    ensures all { result.status ≡ 0 → DoesAll R.Object.tells (K.written sink.old) (K.written sink.new)
-        (C.moment clock.old) (C.moment clock.new) (R.outside remote.old) (R.outside remote.new)
+    ensures all { result.status ≡ 0 → DoesAll D.File.tells R.Object.tells plan.now
+        (K.written sink.old) (K.written sink.new)
+        (around (C.moment clock.old) (R.outside remote.old) (D.disk disk.old))
+        (around (C.moment clock.new) (R.outside remote.new) (D.disk disk.new))
         lines.now (map epoch_of result.epochs.items) }
-    ensures some { result.status ≡ 5 → DoesSome R.Object.tells (K.written sink.old) (K.written sink.new)
-        (C.moment clock.old) (C.moment clock.new) (R.outside remote.old) (R.outside remote.new)
+    ensures some { result.status ≡ 5 → DoesSome D.File.tells R.Object.tells plan.now
+        (K.written sink.old) (K.written sink.new)
+        (around (C.moment clock.old) (R.outside remote.old) (D.disk disk.old))
+        (around (C.moment clock.new) (R.outside remote.new) (D.disk disk.new))
         lines.now (map epoch_of result.epochs.items) }
-    ensures starved { result.status ≡ 8 → DoesNothing (K.written sink.old) (K.written sink.new)
-        (map epoch_of result.epochs.items) ⊎ DoesSome R.Object.tells (K.written sink.old) (K.written sink.new)
-        (C.moment clock.old) (C.moment clock.new) (R.outside remote.old) (R.outside remote.new)
+    ensures starved { result.status ≡ 8 → DoesNothing D.File.tells (K.written sink.old) (K.written sink.new)
+        (around (C.moment clock.old) (R.outside remote.old) (D.disk disk.old))
+        (around (C.moment clock.new) (R.outside remote.new) (D.disk disk.new))
+        (map epoch_of result.epochs.items) ⊎ DoesSome D.File.tells R.Object.tells plan.now
+        (K.written sink.old) (K.written sink.new)
+        (around (C.moment clock.old) (R.outside remote.old) (D.disk disk.old))
+        (around (C.moment clock.new) (R.outside remote.new) (D.disk disk.new))
         lines.now (map epoch_of result.epochs.items) }
     ensures rose { result.status ≡ 5 → Rose (K.faults sink.old) (K.faults sink.new) }
     ensures ends { result.status ≢ 0 → result.status ≢ 5 → result.status ≡ 8 }
@@ -56,13 +71,15 @@ pub fn run_script<K: Sink, R: Remote, C: Clock, G: Gate>(
         Err(NoMemory) => return no_memory(alloc),
     };
     match Vec::with_capacity(alloc, 1) {
-        Ok(epochs) => run_begun(alloc, session, epochs, sink, remote, clock, lines, gate),
+        Ok(epochs) => run_begun(
+            alloc, plan, session, epochs, sink, remote, disk, clock, lines, gate,
+        ),
         Err(_) => no_memory(alloc),
     }
 }
 
 /// Nothing was kept, since memory was wanting.
-pub fn no_memory<O: Object>(alloc: Global) -> Kept<O>
+pub fn no_memory<O: Object, F: CacheFile>(alloc: Global) -> Kept<O, F>
     ensures status { result.status ≡ 8 }
     ensures none { result.epochs.items ≡ [] }
 {
@@ -73,10 +90,9 @@ pub fn no_memory<O: Object>(alloc: Global) -> Kept<O>
 }
 
 /// A session with room for the records of so many calls.
-fn begin<O: Object>(alloc: Global, calls: usize) -> Result<OneSession<O>, NoMemory>
+fn begin<O: Object, F: CacheFile>(alloc: Global, calls: usize) -> Result<OneSession<O, F>, NoMemory>
     ensures new { (handed : List (Fingerprint × List ℕ))
-        → IfOk result (λ session. Fits 1 (Holds O.tells handed) [] session) }
-    ensures given { IfOk result (λ session. session.pairs ≡ []) }
+        → IfOk result (λ session. Fits 1 (Knows F.tells O.tells handed) [] session) }
     ensures limit { IfOk result (λ session. session.limit ≡ history_limit) }
     ensures none { IfOk result (λ session. session.files ≡ []) }
     ensures untouched { IfOk result IsUntouched }
@@ -93,36 +109,46 @@ fn begin<O: Object>(alloc: Global, calls: usize) -> Result<OneSession<O>, NoMemo
 }
 
 /// Does the lines, and keeps the epoch.
-fn run_begun<K: Sink, R: Remote, C: Clock, G: Gate>(
+fn run_begun<K: Sink, R: Remote, D: CacheDisk, C: Clock, G: Gate>(
     alloc: Global,
-    session: OneSession<R::Object>,
-    epochs: Vec<EpochLog<R::Object>>,
+    plan: &Plan,
+    session: OneSession<R::Object, D::File>,
+    epochs: Vec<EpochLog<R::Object, D::File>>,
     sink: &mut K,
     remote: &mut R,
+    disk: &mut D,
     clock: &mut C,
     lines: &[Line],
     gate: &G,
-) -> Kept<R::Object>
-    requires new { (handed : List (Fingerprint × List ℕ)) → Fits 1 (Holds R.Object.tells handed) [] session }
-    requires given { session.pairs ≡ [] }
+) -> Kept<R::Object, D::File>
+    requires lends { Lends D.tells 0 (D.disk disk.old) }
+    requires new { (handed : List (Fingerprint × List ℕ))
+        → Fits 1 (Knows D.File.tells R.Object.tells handed) [] session }
     requires limit { session.limit ≡ history_limit }
     requires files { session.files ≡ [] }
     requires untouched { IsUntouched session }
+    requires chunk { HasChunk plan.now.chunk }
     requires can { CanDoAll lines.now }
     requires few { length lines.now ≤ 65536 }
     requires records { length lines.now ≤ session.room }
     requires none { epochs.items ≡ [] }
     requires room { vec_len epochs < vec_capacity epochs }
-    ensures all { result.status ≡ 0 → DoesAll R.Object.tells (K.written sink.old) (K.written sink.new)
-        (C.moment clock.old) (C.moment clock.new) (R.outside remote.old) (R.outside remote.new)
+    ensures all { result.status ≡ 0 → DoesAll D.File.tells R.Object.tells plan.now
+        (K.written sink.old) (K.written sink.new)
+        (around (C.moment clock.old) (R.outside remote.old) (D.disk disk.old))
+        (around (C.moment clock.new) (R.outside remote.new) (D.disk disk.new))
         lines.now (map epoch_of result.epochs.items) }
-    ensures some { result.status ≢ 0 → DoesSome R.Object.tells (K.written sink.old) (K.written sink.new)
-        (C.moment clock.old) (C.moment clock.new) (R.outside remote.old) (R.outside remote.new)
+    ensures some { result.status ≢ 0 → DoesSome D.File.tells R.Object.tells plan.now
+        (K.written sink.old) (K.written sink.new)
+        (around (C.moment clock.old) (R.outside remote.old) (D.disk disk.old))
+        (around (C.moment clock.new) (R.outside remote.new) (D.disk disk.new))
         lines.now (map epoch_of result.epochs.items) }
     ensures rose { result.status ≡ 5 → Rose (K.faults sink.old) (K.faults sink.new) }
     ensures ends { result.status ≢ 0 → result.status ≢ 5 → result.status ≡ 8 }
 {
-    let Ran { log, wrote } = run_epoch(alloc, session, sink, remote, clock, lines, gate);
+    let Ran { log, wrote } = run_epoch(
+        alloc, plan, session, sink, remote, disk, clock, lines, gate,
+    );
     let epochs = keep(epochs, log);
     match wrote {
         Ok(()) => Kept { status: 0, epochs },
@@ -132,7 +158,10 @@ fn run_begun<K: Sink, R: Remote, C: Clock, G: Gate>(
 }
 
 /// The epochs and one more, for which there is room.
-fn keep<O: Object>(epochs: Vec<EpochLog<O>>, log: EpochLog<O>) -> Vec<EpochLog<O>>
+fn keep<O: Object, F: CacheFile>(
+    epochs: Vec<EpochLog<O, F>>,
+    log: EpochLog<O, F>,
+) -> Vec<EpochLog<O, F>>
     requires { vec_len epochs < vec_capacity epochs }
     ensures { result.items ≡ epochs.items ++ log ∷ [] }
 {

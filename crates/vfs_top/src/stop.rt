@@ -20,6 +20,10 @@ pub enum Stop {
     Limit(Limit),
     /// The remote couldn't be attached.
     Remote,
+    /// The disk of the cache couldn't be attached or looked at.
+    Disk,
+    /// A slot of the disk has metadata, which no run can take up so far.
+    Slots,
     NoMemory,
 }
 
@@ -34,6 +38,8 @@ impl Stop {
             Stop::Source => 4,
             Stop::Limit(_) => 7,
             Stop::Remote => 6,
+            Stop::Disk => 6,
+            Stop::Slots => 7,
             Stop::NoMemory => 8,
         }
     }
@@ -57,6 +63,8 @@ fn print_reason(out: &mut Blob, stop: Stop) -> Result<(), NoMemory>
         Stop::Source => out.append(b"source fault"),
         Stop::Limit(limit) => print_limit(out, limit),
         Stop::Remote => out.append(b"remote fault"),
+        Stop::Disk => out.append(b"disk fault"),
+        Stop::Slots => out.append(b"limit slots 0"),
         Stop::NoMemory => out.append(b"no memory"),
     }
 }

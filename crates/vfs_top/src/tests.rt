@@ -1,3 +1,6 @@
+ghost use Rattle.std.specs.Prelude.{◌≡◌, ℕ, false};
+ghost use Rattle.cache_memory.specs.Disks.{disk_of};
+
 use crate::*;
 use cache_memory::MemoryDisk;
 use remote_memory::{MemoryRemote, RemoteCall};
@@ -7,6 +10,7 @@ use std::test::Fail;
 use vfs_names::VPath;
 use vfs_outside::{MemorySink, MemorySource, OpenGate, Remote, ScriptClock};
 
+mod disk_stops;
 mod folder;
 mod objects;
 mod odd_remote;
@@ -25,6 +29,21 @@ const ROW: [&str; 9] = [
     "full",
     "--worker-turns",
     "0",
+];
+
+/// The same, with requests of two bytes at first.
+const PARTS: [&str; 11] = [
+    "run",
+    "--remote",
+    "r",
+    "--cache",
+    "c",
+    "--vfs-cache-mode",
+    "full",
+    "--worker-turns",
+    "0",
+    "--vfs-read-chunk-size",
+    "2B",
 ];
 
 const USAGE: &str = "usage: vfs run --remote DIR --cache DIR [options]\nend 2\n";
@@ -71,18 +90,25 @@ fn run_over<R: Remote>(
     sink_fails: &[u64],
     remote: R,
 ) -> Result<Seen, Fail> {
+    let disk = MemoryDisk::new(alloc);
+    run_on(alloc, words, source, sink_fails, remote, disk)
+}
+
+fn run_on<R: Remote>(
+    alloc: Global,
+    words: &[&str],
+    source: &mut MemorySource,
+    sink_fails: &[u64],
+    remote: R,
+    disk: MemoryDisk,
+) -> Result<Seen, Fail>
+    requires { (slot : ℕ) → (disk_of disk).out slot ≡ false }
+{
     let words = words_of(alloc, words)?;
     let mut sink = MemorySink::new(alloc, sink_fails.to_vec(alloc)?);
     let mut clock = ScriptClock::new();
     let ended = run(
-        alloc,
-        &words,
-        source,
-        &mut sink,
-        remote,
-        MemoryDisk::new(alloc),
-        &mut clock,
-        &OpenGate,
+        alloc, &words, source, &mut sink, remote, disk, &mut clock, &OpenGate,
     );
     let mut records = Vec::new(alloc);
     for epoch in &ended.epochs {
@@ -123,15 +149,21 @@ fn demos_are_printed(rt: HostRuntime) -> Result<(), Fail> {
     let table = [
         (
             "s1 open 0 a.txt rw create\ns1 write 0 0 text:hello\ns1 read 0 0 8\ns1 close 0\n",
-            "start files 0 queued 0 damaged 0\n1 ok [t1 f0:1]\n2 ok 5 [f0:2]\n3 ok 5 68656c6c6f [f0:3]\n4 ok [t2 f0:4]\ntree\n0 s1 0 listed / 1\n1 s1 0 created a.txt 0\n2 s1 0 closed 0 dirty\nfile 0 a.txt\n0 s1 0 0 create\n1 s1 0 0 opened rw\n2 s1 0 0 write 0 hex:68656c6c6f\n3 s1 0 0 read 0 8\n4 s1 0 0 closed\nqueue\n0 5000 0\nend 0\n",
+            "start files 0 queued 0 damaged 0\n1 ok [t1 f0:1]\n2 ok 5 [f0:2]\n3 ok 5 68656c6c6f [f0:3]\n4 ok [t2 f0:4]\ntree\n0 s1 0 listed / 1\n1 s1 0 created a.txt 0\n2 s1 0 closed 0 dirty\nfile 0 a.txt\n0 s1 0 1 create\n1 s1 0 1 opened rw\n2 s1 0 2 write 0 hex:68656c6c6f\n3 s1 0 4 read 0 8\n4 s1 0 4 closed\nqueue\n0 5000 0\nend 0\n",
             0,
             4,
         ),
         (
             "# What lies before the first write reads as zeros, and a handle that was closed does nothing more.\ns1 open 7 notes.txt rw create\ns1 write 7 4 text:end\ns1 read 7 0 16\ns1 read 7 0 131073\ns1 close 7\ns1 read 7 0 1\n",
-            "start files 0 queued 0 damaged 0\n2 ok [t1 f0:1]\n3 ok 3 [f0:2]\n4 ok 7 00000000656e64 [f0:3]\n5 E12 too big\n6 ok [t2 f0:4]\n7 E6 bad handle\ntree\n0 s1 0 listed / 1\n1 s1 0 created notes.txt 0\n2 s1 0 closed 0 dirty\nfile 0 notes.txt\n0 s1 0 0 create\n1 s1 0 0 opened rw\n2 s1 0 0 write 4 hex:656e64\n3 s1 0 0 read 0 16\n4 s1 0 0 closed\nqueue\n0 5000 0\nend 0\n",
+            "start files 0 queued 0 damaged 0\n2 ok [t1 f0:1]\n3 ok 3 [f0:2]\n4 ok 7 00000000656e64 [f0:3]\n5 E12 too big\n6 ok [t2 f0:4]\n7 E6 bad handle\ntree\n0 s1 0 listed / 1\n1 s1 0 created notes.txt 0\n2 s1 0 closed 0 dirty\nfile 0 notes.txt\n0 s1 0 1 create\n1 s1 0 1 opened rw\n2 s1 0 2 write 4 hex:656e64\n3 s1 0 4 read 0 16\n4 s1 0 4 closed\nqueue\n0 5000 0\nend 0\n",
             0,
             6,
+        ),
+        (
+            "s1 open 0 a rw create\ns1 write 0 0 text:hello\ns1 size 0 2\ns1 size 0 8\ns1 read 0 0 16\ns1 write 0 9 text:\ns1 close 0\n",
+            "start files 0 queued 0 damaged 0\n1 ok [t1 f0:1]\n2 ok 5 [f0:2]\n3 ok [f0:3]\n4 ok [f0:4]\n5 ok 8 6865000000000000 [f0:5]\n6 ok 0 [f0:6]\n7 ok [t2 f0:7]\ntree\n0 s1 0 listed / 1\n1 s1 0 created a 0\n2 s1 0 closed 0 dirty\nfile 0 a\n0 s1 0 1 create\n1 s1 0 1 opened rw\n2 s1 0 2 write 0 hex:68656c6c6f\n3 s1 0 4 size 2\n4 s1 0 5 size 8\n5 s1 0 6 read 0 16\n6 s1 0 6 write 9 hex:\n7 s1 0 6 closed\nqueue\n0 5000 0\nend 0\n",
+            0,
+            7,
         ),
         (
             "s1 open 0 a.txt rw create\ns1 write 0 0 text:hello\ns1 reed 0 0 8\ns1 close 0\n",
@@ -196,6 +228,14 @@ fn calls_are_answered(rt: HostRuntime) -> Result<(), Fail> {
             "2 ok 131072 [f0:2]\n3 E12 too big\n4 E12 too big\n5 ok 3 414141 [f0:3]\n",
         ),
         (
+            "s1 write 0 0 text:hello\ns1 size 0 2\ns1 read 0 0 8\ns1 size 0 4\ns1 read 0 0 8\ns1 size 0 1099511627776\ns1 size 0 1099511627777\ns1 read 0 1099511627775 9\n",
+            "2 ok 5 [f0:2]\n3 ok [f0:3]\n4 ok 2 6865 [f0:4]\n5 ok [f0:5]\n6 ok 4 68650000 [f0:6]\n7 ok [f0:7]\n8 E12 too big\n9 ok 1 00 [f0:8]\n",
+        ),
+        (
+            "s1 size 1 0\ns1 close 0\ns1 size 0 0\ns1 open 0 a r\ns1 size 0 0\ns1 size 0 1099511627777\n",
+            "2 E6 bad handle\n3 ok [t2 f0:2]\n4 E6 bad handle\n5 ok [t3 f0:3]\n6 E8 not writable\n7 E8 not writable\n",
+        ),
+        (
             "s1 open 1 b rw create\ns1 write 1 0 text:q\ns1 read 0 0 1\ns1 read 1 0 1\n",
             "2 ok [t2 f1:1]\n3 ok 1 [f1:2]\n4 ok 0 [f0:2]\n5 ok 1 71 [f1:3]\n",
         ),
@@ -246,6 +286,38 @@ fn other_words_are_refused(rt: HostRuntime) -> Result<(), Fail> {
     let source = source_of(rt.alloc(), b"", &[])?;
     let seen = run_words(rt.alloc(), &more, source, &[])?;
     expect_text(&rt, &seen, 2, USAGE);
+    Ok(())
+}
+
+#[test]
+fn words_stand_in_any_order(rt: HostRuntime) -> Result<(), Fail> {
+    let table: [&[&str]; 3] = [
+        &[
+            "run",
+            "--worker-turns=0",
+            "--vfs-cache-mode=full",
+            "--cache=c",
+            "--remote=r",
+        ],
+        &[
+            "run",
+            "--vfs-read-chunk-size",
+            "off",
+            "--cache",
+            "c",
+            "--worker-turns",
+            "0",
+            "--remote=r",
+            "--vfs-cache-mode",
+            "full",
+        ],
+        &PARTS,
+    ];
+    for words in table {
+        let source = source_of(rt.alloc(), OPEN.as_bytes(), &[])?;
+        let seen = run_words(rt.alloc(), words, source, &[])?;
+        expect_replies(&rt, &seen, "1 ok [t1 f0:1]\n");
+    }
     Ok(())
 }
 

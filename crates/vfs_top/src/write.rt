@@ -13,7 +13,7 @@ use one_session::EpochLog;
 use session_text::{Record, print_start};
 use std::alloc::Global;
 use vfs_names::{Blob, NoMemory};
-use vfs_outside::{Object, Sink};
+use vfs_outside::{CacheFile, Object, Sink};
 
 /// Why a text wasn't written.
 #[derive(Clone, Copy, Debug, PartialEq, Eq)]
@@ -84,10 +84,10 @@ pub fn write_joined<K: Sink>(
 
 /// Writes the histories of an epoch, the queue, and the last line.
 #[tactic(auto, using(crate::proofs::Texts::none_written))]
-pub fn write_ending<K: Sink, O: Object>(
+pub fn write_ending<K: Sink, O: Object, F: CacheFile>(
     alloc: Global,
     sink: &mut K,
-    log: &EpochLog<O>,
+    log: &EpochLog<O, F>,
 ) -> Result<(), Unwritten>
     ensures { Writes (K.written sink.old) (K.written sink.new) (K.faults sink.old) (K.faults sink.new)
         (end_block (epoch_of log.now) ++ end_text 0) result }

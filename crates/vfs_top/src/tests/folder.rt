@@ -29,19 +29,22 @@ pub fn put(rt: &HostRuntime, name: &str, bytes: &[u8], mtime: u64) -> io::Result
 
 /// Runs a script over a folder.
 fn run_folder(rt: &HostRuntime, folder: &str, script: &str) -> Result<Seen, Fail> {
-    run_remote(rt, folder, script, FolderRemote::new(rt.alloc(), *rt))
+    let remote = FolderRemote::new(rt.alloc(), *rt);
+    run_remote(rt, folder, "128M", script, remote)
 }
 
-/// Runs a script over a store of this name.
-pub fn run_remote<R: Remote>(
+/// Runs a script over a store of this name, with requests of this size at first.
+pub fn run_remote<'a, R: Remote>(
     rt: &HostRuntime,
-    name: &str,
+    name: &'a str,
+    chunk: &'a str,
     script: &str,
     remote: R,
 ) -> Result<Seen, Fail> {
     let alloc = rt.alloc();
-    let mut words = ROW;
+    let mut words = PARTS;
     words[2] = name;
+    words[10] = chunk;
     let mut source = source_of(alloc, script.as_bytes(), &[])?;
     run_over(alloc, &words, &mut source, &[], remote)
 }
@@ -134,10 +137,10 @@ fn push_replies(alloc: Global, text: &mut Vec<u8>, item: usize, digits: &[u8]) -
 }
 
 /// One run reads these files whole; each byte of the replies is compared.
-fn read_part(rt: &HostRuntime, digits: &[u8], first: usize) -> Result<bool, Fail> {
+fn read_part(rt: &HostRuntime, folder: &str, digits: &[u8], first: usize) -> Result<bool, Fail> {
     let alloc = rt.alloc();
     let script = script_of(alloc, first)?;
-    let seen = run_folder(rt, "vfs_top_300", script.as_str())?;
+    let seen = run_folder(rt, folder, script.as_str())?;
     let mut text = START.as_bytes().to_vec(alloc)?;
     for item in 0..PART {
         let part = part_of(digits, first.saturating_add(item), 2);
@@ -147,20 +150,38 @@ fn read_part(rt: &HostRuntime, digits: &[u8], first: usize) -> Result<bool, Fail
     Ok(seen.status == 0 && seen.sink.written().starts_with(text.as_slice()))
 }
 
-#[test]
-fn files_of_a_folder_are_read_whole(rt: HostRuntime) -> Result<(), Fail> {
-    let _ = fs::remove_dir_all(&rt, "vfs_top_300");
-    fs::create_dir_all(&rt, "vfs_top_300")?;
+/// A part of the files is made in a folder of this name, and is read whole.
+fn is_part_read(rt: &HostRuntime, folder: &str, first: usize) -> Result<bool, Fail> {
+    let _ = fs::remove_dir_all(rt, folder);
+    fs::create_dir_all(rt, folder)?;
     let pattern = pattern(rt.alloc())?;
-    for n in 0..FILES {
-        let name = format!(in rt.alloc(); "vfs_top_300/f{n}")?;
-        fs::write(&rt, name.as_str(), part_of(&pattern, n, 1))?;
+    for n in first..first.saturating_add(PART) {
+        let name = format!(in rt.alloc(); "{folder}/f{n}")?;
+        fs::write(rt, name.as_str(), part_of(&pattern, n, 1))?;
     }
     let digits = hex_of(rt.alloc(), &pattern)?;
-    for first in [0, 50, 100, 150, 200, 250] {
-        assert!(rt; read_part(&rt, &digits, first)?, "from {first}");
+    let is_read = read_part(rt, folder, &digits, first)?;
+    fs::remove_dir_all(rt, folder)?;
+    Ok(is_read)
+}
+
+#[test]
+fn small_files_of_a_folder_are_read_whole(rt: HostRuntime) -> Result<(), Fail> {
+    for first in [0, 50, 100, 150] {
+        assert!(rt; is_part_read(&rt, "vfs_top_small", first)?, "from {first}");
     }
-    fs::remove_dir_all(&rt, "vfs_top_300")?;
+    Ok(())
+}
+
+#[test]
+fn files_of_a_folder_are_read_whole(rt: HostRuntime) -> Result<(), Fail> {
+    assert!(rt; is_part_read(&rt, "vfs_top_middle", 200)?);
+    Ok(())
+}
+
+#[test]
+fn large_files_of_a_folder_are_read_whole(rt: HostRuntime) -> Result<(), Fail> {
+    assert!(rt; is_part_read(&rt, "vfs_top_large", 250)?);
     Ok(())
 }
 
@@ -184,12 +205,12 @@ tree
 3 s1 0 refused open d E3 is a directory
 4 s1 0 opened x 1 0.2000.0
 file 0 a
-0 s1 0 0 adopt 5.1000.0
-1 s1 0 0 opened r
-2 s1 0 0 read 0 64
+0 s1 0 1 adopt 5.1000.0
+1 s1 0 1 opened r
+2 s1 0 4 read 0 64
 file 1 x
-0 s1 0 0 adopt 0.2000.0
-1 s1 0 0 opened r
+0 s1 0 1 adopt 0.2000.0
+1 s1 0 1 opened r
 queue
 end 0
 ";
@@ -207,9 +228,9 @@ tree
 3 s1 0 refused open d E3 is a directory
 4 s1 0 refused open x E1 not found
 file 0 a
-0 s1 0 0 adopt 6.3000.0
-1 s1 0 0 opened r
-2 s1 0 0 read 0 64
+0 s1 0 1 adopt 6.3000.0
+1 s1 0 1 opened r
+2 s1 0 4 read 0 64
 queue
 end 0
 ";

@@ -64,12 +64,16 @@ fn store(alloc: Global, plans: &[Plan]) -> Result<MemoryRemote, Fail> {
     Ok(remote)
 }
 
-/// Each run prints just this.
-fn expect_cases(rt: &(impl Abort + AllocGlobal), cases: &[Case]) -> Result<(), Fail> {
+/// Each run by these words prints just this.
+fn expect_cases(
+    rt: &(impl Abort + AllocGlobal),
+    words: &[&str],
+    cases: &[Case],
+) -> Result<(), Fail> {
     for case in cases {
         let mut source = source_of(rt.alloc(), case.script.as_bytes(), &[])?;
         let remote = store(rt.alloc(), case.plans)?;
-        let seen = run_over(rt.alloc(), &ROW, &mut source, &[], remote)?;
+        let seen = run_over(rt.alloc(), words, &mut source, &[], remote)?;
         expect_text(rt, &seen, 0, case.transcript);
     }
     Ok(())
@@ -90,10 +94,10 @@ tree
 1 s1 0 opened a 0 3.0.1
 2 s1 0 closed 0 clean
 file 0 a
-0 s1 0 0 adopt 3.0.1
-1 s1 0 0 opened r
-2 s1 0 0 read 1 8
-3 s1 0 0 closed
+0 s1 0 1 adopt 3.0.1
+1 s1 0 1 opened r
+2 s1 0 4 read 1 8
+3 s1 0 4 closed
 queue
 end 0
 ",
@@ -120,15 +124,15 @@ tree
 5 s1 0 closed 0 clean
 6 s1 0 closed 1 dirty
 file 0 a
-0 s1 0 0 adopt 3.0.1
-1 s1 0 0 opened r
-2 s1 0 0 read 0 131072
-3 s1 0 0 closed
+0 s1 0 1 adopt 3.0.1
+1 s1 0 1 opened r
+2 s1 0 4 read 0 131072
+3 s1 0 4 closed
 file 1 x
-0 s1 0 0 create
-1 s1 0 0 opened rw
-2 s1 0 0 read 0 1
-3 s1 0 0 closed
+0 s1 0 1 create
+1 s1 0 1 opened rw
+2 s1 0 1 read 0 1
+3 s1 0 1 closed
 queue
 1 5000 0
 end 0
@@ -152,15 +156,15 @@ tree
 2 s1 0 closed 0 dirty
 3 s1 0 opened a 0 3.0.1
 file 0 a
-0 s1 0 0 adopt 3.0.1
-1 s1 0 0 opened rw
-2 s1 0 0 write 1 hex:5859
-3 s1 0 0 read 0 8
-4 s1 0 0 write 5 hex:5a
-5 s1 0 0 read 0 8
-6 s1 0 0 closed
-7 s1 0 0 opened r
-8 s1 0 0 read 0 2
+0 s1 0 1 adopt 3.0.1
+1 s1 0 1 opened rw
+2 s1 0 2 write 1 hex:5859
+3 s1 0 6 read 0 8
+4 s1 0 7 write 5 hex:5a
+5 s1 0 10 read 0 8
+6 s1 0 10 closed
+7 s1 0 10 opened r
+8 s1 0 11 read 0 2
 queue
 0 5000 0
 end 0
@@ -183,13 +187,13 @@ tree
 3 s1 0 closed 0 dirty
 4 s1 0 closed 0 dirty
 file 0 a
-0 s1 0 0 adopt 3.0.1
-1 s1 0 0 opened r
-2 s1 0 0 opened rw
-3 s1 0 0 write 0 hex:58
-4 s1 0 0 read 0 3
-5 s1 0 0 closed
-6 s1 0 0 closed
+0 s1 0 1 adopt 3.0.1
+1 s1 0 1 opened r
+2 s1 0 1 opened rw
+3 s1 0 2 write 0 hex:58
+4 s1 0 6 read 0 3
+5 s1 0 6 closed
+6 s1 0 6 closed
 queue
 0 5000 0
 end 0
@@ -199,7 +203,7 @@ end 0
 
 #[test]
 fn objects_are_read_through(rt: HostRuntime) -> Result<(), Fail> {
-    expect_cases(&rt, &READ)
+    expect_cases(&rt, &ROW, &READ)
 }
 
 /// Others put or delete the object between the listing and the opening, or the opening fails.
@@ -219,12 +223,12 @@ tree
 2 s1 0 closed 0 clean
 3 s1 0 opened a 0 5.9.2
 file 0 a
-0 s1 0 0 adopt 5.9.2
-1 s1 0 0 opened r
-2 s1 0 0 read 0 8
-3 s1 0 0 closed
-4 s1 0 0 opened r
-5 s1 0 0 read 3 8
+0 s1 0 1 adopt 5.9.2
+1 s1 0 1 opened r
+2 s1 0 4 read 0 8
+3 s1 0 4 closed
+4 s1 0 4 opened r
+5 s1 0 5 read 3 8
 queue
 end 0
 ",
@@ -244,9 +248,9 @@ tree
 3 s1 0 refused open a E1 not found
 4 s1 0 created a 0
 file 0 a
-0 s1 0 0 create
-1 s1 0 0 opened rw
-2 s1 0 0 read 0 8
+0 s1 0 1 create
+1 s1 0 1 opened rw
+2 s1 0 1 read 0 8
 queue
 end 0
 ",
@@ -263,9 +267,9 @@ tree
 1 s1 0 refused open a E13 remote fault
 2 s1 0 opened a 0 3.0.1
 file 0 a
-0 s1 0 0 adopt 3.0.1
-1 s1 0 0 opened rw
-2 s1 0 0 read 0 8
+0 s1 0 1 adopt 3.0.1
+1 s1 0 1 opened rw
+2 s1 0 4 read 0 8
 queue
 end 0
 ",
@@ -274,11 +278,11 @@ end 0
 
 #[test]
 fn an_opening_meets_what_stands_in_the_store(rt: HostRuntime) -> Result<(), Fail> {
-    expect_cases(&rt, &OPENED)
+    expect_cases(&rt, &ROW, &OPENED)
 }
 
 /// A pull that fails is tried again by the next read; an object that changed is stale until the file is opened again, and
-/// what was got of it stays.
+/// what was got of it stays. The object's first two bytes are got by one pull, and the third by another.
 const PULLED: [Case; 2] = [
     Case {
         plans: &[Plan::FailsPull(1)],
@@ -293,27 +297,27 @@ tree
 1 s1 0 opened a 0 3.0.1
 2 s1 0 closed 0 clean
 file 0 a
-0 s1 0 0 adopt 3.0.1
-1 s1 0 0 opened r
-2 s1 0 0 refused read E13 remote fault
-3 s1 0 0 read 0 8
-4 s1 0 0 closed
+0 s1 0 1 adopt 3.0.1
+1 s1 0 1 opened r
+2 s1 0 1 refused read E13 remote fault
+3 s1 0 6 read 0 8
+4 s1 0 6 closed
 queue
 end 0
 ",
     },
     Case {
         plans: &[Plan::ChangesAtPull(2)],
-        script: "s1 open 0 a r\ns1 read 0 0 1\ns1 read 0 0 8\ns1 read 0 1 8\ns1 read 0 0 1\ns1 close 0\ns1 open 0 a r\ns1 read 0 1 1\ns1 close 0\n",
+        script: "s1 open 0 a r\ns1 read 0 0 1\ns1 read 0 0 8\ns1 read 0 1 8\ns1 read 0 1 1\ns1 close 0\ns1 open 0 a r\ns1 read 0 2 1\ns1 close 0\n",
         transcript: "start files 0 queued 0 damaged 0
 1 ok [t1 f0:1]
 2 ok 1 61 [f0:2]
 3 E15 stale 3.0.1 changed [f0:3]
 4 E15 stale 3.0.1 changed [f0:4]
-5 ok 1 61 [f0:5]
+5 ok 1 62 [f0:5]
 6 ok [t2 f0:6]
 7 ok [t3 f0:8]
-8 ok 1 62 [f0:9]
+8 ok 1 63 [f0:9]
 9 ok [t4 f0:10]
 tree
 0 s1 0 listed / 1 f:a:3.0.1
@@ -322,17 +326,17 @@ tree
 3 s1 0 opened a 0 3.0.1
 4 s1 0 closed 0 clean
 file 0 a
-0 s1 0 0 adopt 3.0.1
-1 s1 0 0 opened r
-2 s1 0 0 read 0 1
-3 s1 0 0 refused read E15 stale 3.0.1 changed
-4 s1 0 0 refused read E15 stale 3.0.1 changed
-5 s1 0 0 read 0 1
-6 s1 0 0 closed
-7 s1 0 0 bind 3.0.1
-8 s1 0 0 opened r
-9 s1 0 0 read 1 1
-10 s1 0 0 closed
+0 s1 0 1 adopt 3.0.1
+1 s1 0 1 opened r
+2 s1 0 4 read 0 1
+3 s1 0 4 refused read E15 stale 3.0.1 changed
+4 s1 0 4 refused read E15 stale 3.0.1 changed
+5 s1 0 5 read 1 1
+6 s1 0 5 closed
+7 s1 0 5 bind 3.0.1
+8 s1 0 5 opened r
+9 s1 0 8 read 2 1
+10 s1 0 8 closed
 queue
 end 0
 ",
@@ -341,13 +345,13 @@ end 0
 
 #[test]
 fn a_pull_that_fails_and_a_changed_object_are_told(rt: HostRuntime) -> Result<(), Fail> {
-    expect_cases(&rt, &PULLED)
+    expect_cases(&rt, &PARTS, &PULLED)
 }
 
 /// A file whose object changed takes another one at its next opening, or is made anew where the object is gone.
 const OPENED_AGAIN: [Case; 2] = [
     Case {
-        plans: &[Plan::ChangesAtPull(2), Plan::PutBefore(4, b"other", 9)],
+        plans: &[Plan::ChangesAtPull(2), Plan::PutBefore(4, b"xy", 9)],
         script: "s1 open 0 a r\ns1 read 0 0 1\ns1 read 0 0 8\ns1 close 0\ns1 open 0 a r\ns1 read 0 0 8\ns1 close 0\n",
         transcript: "start files 0 queued 0 damaged 0
 1 ok [t1 f0:1]
@@ -355,24 +359,24 @@ const OPENED_AGAIN: [Case; 2] = [
 3 E15 stale 3.0.1 changed [f0:3]
 4 ok [t2 f0:4]
 5 ok [t3 f0:6]
-6 ok 5 6f74686572 [f0:7]
+6 ok 2 7879 [f0:7]
 7 ok [t4 f0:8]
 tree
 0 s1 0 listed / 1 f:a:3.0.1
 1 s1 0 opened a 0 3.0.1
 2 s1 0 closed 0 clean
-3 s1 0 opened a 0 5.9.2
+3 s1 0 opened a 0 2.9.2
 4 s1 0 closed 0 clean
 file 0 a
-0 s1 0 0 adopt 3.0.1
-1 s1 0 0 opened r
-2 s1 0 0 read 0 1
-3 s1 0 0 refused read E15 stale 3.0.1 changed
-4 s1 0 0 closed
-5 s1 0 0 adopt 5.9.2
-6 s1 0 0 opened r
-7 s1 0 0 read 0 8
-8 s1 0 0 closed
+0 s1 0 1 adopt 3.0.1
+1 s1 0 1 opened r
+2 s1 0 4 read 0 1
+3 s1 0 4 refused read E15 stale 3.0.1 changed
+4 s1 0 4 closed
+5 s1 0 5 adopt 2.9.2
+6 s1 0 5 opened r
+7 s1 0 8 read 0 8
+8 s1 0 8 closed
 queue
 end 0
 ",
@@ -398,15 +402,15 @@ tree
 5 s1 0 created a 0
 6 s1 0 closed 0 dirty
 file 0 a
-0 s1 0 0 adopt 3.0.1
-1 s1 0 0 opened r
-2 s1 0 0 refused read E15 stale 3.0.1 changed
-3 s1 0 0 closed
-4 s1 0 0 create
-5 s1 0 0 opened rw
-6 s1 0 0 write 0 hex:6e6577
-7 s1 0 0 read 0 8
-8 s1 0 0 closed
+0 s1 0 1 adopt 3.0.1
+1 s1 0 1 opened r
+2 s1 0 1 refused read E15 stale 3.0.1 changed
+3 s1 0 1 closed
+4 s1 0 2 create
+5 s1 0 2 opened rw
+6 s1 0 3 write 0 hex:6e6577
+7 s1 0 5 read 0 8
+8 s1 0 5 closed
 queue
 0 5000 0
 end 0
@@ -416,7 +420,7 @@ end 0
 
 #[test]
 fn a_file_takes_what_its_next_opening_finds(rt: HostRuntime) -> Result<(), Fail> {
-    expect_cases(&rt, &OPENED_AGAIN)
+    expect_cases(&rt, &PARTS, &OPENED_AGAIN)
 }
 
 #[test]
@@ -436,8 +440,8 @@ tree
 2 s1 0 refused open d E3 is a directory
 3 s1 0 opened a 0 3.0.1
 file 0 a
-0 s1 0 0 adopt 3.0.1
-1 s1 0 0 opened r
+0 s1 0 1 adopt 3.0.1
+1 s1 0 1 opened r
 queue
 end 0
 ";

@@ -136,7 +136,7 @@ fn run_deed(
         opened,
         deed,
     };
-    let seen = run_remote(rt, FOLDER, script, remote)?;
+    let seen = run_remote(rt, FOLDER, "2B", script, remote)?;
     fs::remove_dir_all(rt, FOLDER)?;
     Ok(seen)
 }

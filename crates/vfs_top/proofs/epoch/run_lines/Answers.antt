@@ -1,11 +1,39 @@
+use Rattle.std.proofs.Common.{arith, refl}
 use Rattle.vfs_top.specs.Epoch.{epoch_of}
 use Rattle.vfs_top.proofs.Ending.{lines_broken, lines_done}
 use Rattle.vfs_top.proofs.epoch.run_lines.Goals as goal
 
 pub returns-in-Ok : goal.returns-in-Ok
 returns-in-Ok g c = let log = c.into_log-log.ensures in
-    lines_done g.R.Object.Object.tells _ _ c.args.lines.now (epoch_of c.into_log-log.result) _ _ _ c.in-Ok.ensures log.whole log.tree log.files log.records log.steps c.write_ending-wrote.ensures
+    lines_done g.D.File.CacheFile.tells g.R.Object.Object.tells c.args.plan.now _ _ _ c.args.lines.now (epoch_of c.into_log-log.result) _ _ _
+    (λ kept slot. c.requires.lends.blank (g.met.D.CacheDisk.told_by_files kept) slot (omega arith)) c.in-Ok.ensures.gone
+    (record {
+      tree = log.tree;
+      files = log.files;
+      records = log.records;
+      steps = log.steps;
+      whole = log.whole;
+      moment = refl;
+      remote = refl;
+      faults = log.faults;
+      back = log.back;
+      images = λ kept. log.images (g.met.D.CacheDisk.told_by_files kept);
+    })
+    c.write_ending-wrote.ensures
 
 pub returns-in-Err : goal.returns-in-Err
 returns-in-Err g c = let log = c.into_log.ensures in
-    lines_broken g.R.Object.Object.tells _ _ c.args.lines.now (epoch_of c.into_log.result) c.in-Err.why c.in-Err.ensures log.whole log.tree log.files log.records log.steps
+    lines_broken g.D.File.CacheFile.tells g.R.Object.Object.tells c.args.plan.now _ _ _ c.args.lines.now (epoch_of c.into_log.result) c.in-Err.why
+    (λ kept slot. c.requires.lends.blank (g.met.D.CacheDisk.told_by_files kept) slot (omega arith)) c.in-Err.ensures.gone
+    (record {
+      tree = log.tree;
+      files = log.files;
+      records = log.records;
+      steps = log.steps;
+      whole = log.whole;
+      moment = refl;
+      remote = refl;
+      faults = log.faults;
+      back = log.back;
+      images = λ kept. log.images (g.met.D.CacheDisk.told_by_files kept);
+    })

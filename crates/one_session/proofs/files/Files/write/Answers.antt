@@ -1,25 +1,35 @@
-use Rattle.std.proofs.Common.{◌<◌, ap, sym, subst, ◌∙◌, [], ◌∷◌, false, append-nil}
-use Rattle.item_core.specs.declared.entry.FileKind.TheVariants.{Write}
-use Rattle.memory_item.specs.Item.{in_file}
-use Rattle.one_session.specs.Calls.{free_in}
-use Rattle.one_session.specs.State.{entries_in}
-use Rattle.one_session.specs.Views.{histories}
-use Rattle.one_session.proofs.Shelves.{on_err, on_ok, seen_behind, seen_free, seen_given, seen_grown, seen_same}
+use Rattle.std.proofs.Common.{◌<◌, ap, subst, sym}
+use Rattle.item_core.specs.History.{opens_by}
+use Rattle.sparse_item.specs.Item.{Item}
+use Rattle.one_session.specs.Books.{HasSame, IsSameFile, WritesBook}
+use Rattle.one_session.proofs.Shelves.{seen_item, seen_limits, seen_moved, seen_one}
 use Rattle.one_session.proofs.files.Files.write.Goals as goal
 
-pub returns-clause-ok : goal.returns-clause-ok
-returns-clause-ok g c = on_ok c.write.result (λ past. seen_grown c.self.inside.files.items c.args.self.now.items (ap (λ v. v.items) c.self.view_is) c.args.item c.index_mut.result.now c.requires.inside c.index_mut.ensures.value c.write.new.self (in_file c.args.by false (Write c.args.pos c.args.payload.now) ∷ []) [] past
-    (c.write.ensures.names ∙ sym (append-nil c.index_mut.result.now.names))) c.write.ensures.ok
+pub write-requires : goal.write-requires
+write-requires g c = record { «open» = subst (λ (x : Item). 0 < opens_by c.args.by.pass x.log.past) (seen_item c.self.inside.files.items c.args.self.now.items (ap (λ v. v.items) c.self.view_is) c.args.item c.index_mut.result.now c.requires.inside c.index_mut.ensures.value) c.requires.open }
 
-pub returns-clause-err : goal.returns-clause-err
-returns-clause-err g c = on_err c.write.result (λ past. seen_same c.self.inside.files.items c.args.self.now.items (ap (λ v. v.items) c.self.view_is) c.args.item c.index_mut.result.now c.requires.inside c.index_mut.ensures.value c.write.new.self past c.write.ensures.names) c.write.ensures.err
+pub returns-clause-did : goal.returns-clause-did
+returns-clause-did g c = seen_moved c.self.inside.files.items c.args.self.now.items (ap (λ v. v.items) c.self.view_is) c.args.item c.index_mut.result.now c.requires.inside c.index_mut.ensures.value
+    (λ old new. WritesBook g.F.CacheFile.tells c.args.by c.args.pos c.args.payload old new c.write.result) c.write.new.self
+    (record {
+      same = record {
+        id = ap (λ x. x.id) c.write.ensures.same;
+        slot_id = ap (λ x. x.slot_id) c.write.ensures.same;
+        saved = ap (λ x. x.saved) c.write.ensures.same;
+        limit = c.write.ensures.limit;
+        slot = c.write.ensures.slot;
+      };
+      has_same = record { names = ap (λ x. x.names) c.write.ensures.same; pairs = ap (λ x. x.pairs) c.write.ensures.same };
+      count = c.write.ensures.count;
+      ok = c.write.ensures.ok;
+      err = c.write.ensures.err;
+      big = c.write.ensures.big.0;
+      full = λ h. (c.write.ensures.full.0 h).1;
+      causes = c.write.ensures.causes;
+    })
 
-pub returns-clause-behind : goal.returns-clause-behind
-returns-clause-behind g c = seen_behind c.self.inside.files.items c.args.self.now.items (ap (λ v. v.items) c.self.view_is) c.args.item c.index_mut.result.now c.requires.inside c.index_mut.ensures.value c.write.new.self c.write.ensures.behind
+pub invariant_of-self : goal.invariant_of-self
+invariant_of-self g c = (c.self.invariant.0, c.self.invariant.1, seen_limits c.self.inside.files.items c.args.self.now.items (ap (λ v. v.items) c.self.view_is) c.args.item c.index_mut.result.now c.requires.inside c.index_mut.ensures.value c.self.inside.limit c.self.invariant.2 c.write.new.self c.write.ensures.limit)
 
-pub returns-clause-given : goal.returns-clause-given
-returns-clause-given g c = seen_given c.self.inside.files.items c.args.self.now.items (ap (λ v. v.items) c.self.view_is) c.args.item c.index_mut.result.now c.requires.inside c.index_mut.ensures.value c.write.new.self c.write.ensures.pairs
-
-pub returns-clause-full : goal.returns-clause-full
-returns-clause-full g c = let e = sym (ap (λ v. free_in v.limit (entries_in (histories v.items) c.args.item)) c.self.view_is) ∙ ap (λ l. free_in c.self.inside.limit (entries_in (histories l) c.args.item)) (ap (λ v. v.items) c.self.view_is) ∙ seen_free c.self.inside.files.items c.args.self.now.items (ap (λ v. v.items) c.self.view_is) c.args.item c.index_mut.result.now c.requires.inside c.index_mut.ensures.value c.self.inside.limit c.self.invariant.2 in
-    (λ h. subst (λ n. n < 1) (sym e) (c.write.ensures.full.0 h), λ h. c.write.ensures.full.1 (subst (λ n. n < 1) e h))
+pub returns-clause-one : goal.returns-clause-one
+returns-clause-one g c = seen_one c.self.inside.files.items c.args.self.now.items (ap (λ v. v.items) c.self.view_is) c.args.item c.index_mut.result.now c.requires.inside c.index_mut.ensures.value c.write.new.self

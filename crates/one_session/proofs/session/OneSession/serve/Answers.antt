@@ -1,18 +1,26 @@
-use Rattle.std.proofs.Common.{◌++◌, ◌∙◌, ◌∷◌, [], ap, subst, sym, refl, min, ◌-◌, vec_len, vec_capacity}
-use Rattle.memory_item.specs.Known.{Holds}
-use Rattle.one_session.specs.Causes.{AreGiven, TakesStep}
+use Rattle.std.proofs.Common.{◌++◌, ◌∙◌, ◌∷◌, [], ap, subst, sym, refl, min, ◌-◌, vec_len, vec_capacity, length}
+use Rattle.one_session.specs.Causes.{AreGiven}
 use Rattle.one_session.specs.Did.{Did}
-use Rattle.one_session.specs.Served.{Serves}
+use Rattle.one_session.specs.Served.{Knows, Serves}
+use Rattle.one_session.specs.Slots.{Lends}
 use Rattle.one_session.specs.Standing.{recorded, state_of}
-use Rattle.one_session.specs.State.{Step}
-use Rattle.one_session.specs.Views.{Shelf, behind_all}
+use Rattle.one_session.specs.Steps.{TakesStep}
+use Rattle.one_session.specs.Views.{Shelf, given_all}
+use Rattle.one_session.proofs.Ending.{lends_files, lends_items}
 use Rattle.one_session.proofs.Served.{serves}
 use Rattle.one_session.proofs.session.OneSession.serve.Goals as goal
 
+pub answer-reply-requires-clause-lends : goal.answer-reply-requires-clause-lends
+answer-reply-requires-clause-lends g c = lends_items g.D.CacheDisk.tells c.self.inside.store.files.items (g.D.CacheDisk.disk c.args.disk.now)
+    (subst (λ s. Lends g.D.CacheDisk.tells (length s.files) (g.D.CacheDisk.disk c.args.disk.now)) (sym c.self.view_is) c.requires.lends)
+
 pub returns-clause-served : goal.returns-clause-served
 returns-clause-served g c =
+    let kept = g.F.CacheFile.tells in
     let tells = g.O.Object.tells in
     let before = (g.R.Remote.outside c.args.remote.now).handed in
+    let faults = (g.D.CacheDisk.disk c.args.disk.now).faults in
+    let faults' = (g.D.CacheDisk.disk c.answer-reply.new.disk).faults in
     let line = c.args.line.now in
     let done = recorded line.line c.answer-reply.result in
     let old = state_of c.self.inside.store [] [] 0 in
@@ -20,19 +28,23 @@ returns-clause-served g c =
     let room = min (vec_capacity c.push.new.self - vec_len c.push.new.self) (vec_capacity c.push-2.new.self - vec_len c.push-2.new.self) in
     let has = min (vec_capacity c.self.inside.records - vec_len c.self.inside.records) (vec_capacity c.self.inside.steps - vec_len c.self.inside.steps) in
     let cause = c.answer-reply.ensures.cause line.line in
-    let given = subst (λ s. AreGiven tells before s.pairs) (sym c.self.view_is) c.requires.given in
+    let stepped = c.answer-reply.ensures.stepped line.line in
+    let given = subst (λ s. AreGiven tells before (given_all s.items)) (sym c.self.view_is) c.requires.given in
     let added = (rw c.unwrap-2.ensures at c.push-2.ensures.items)
-    ∙ ap (λ (f : Shelf). c.self.inside.steps.items ++ record { before = behind_all f.items; after = behind_all c.of-after.result.value.items } ∷ []) c.of-before.ensures
-    ∙ ap (λ (f : Shelf). c.self.inside.steps.items ++ record { before = behind_all c.self.inside.store.files.items; after = behind_all f.items } ∷ []) c.of-after.ensures in (
+    ∙ ap (λ (f : Shelf). c.self.inside.steps.items ++ record { before = f.items; after = c.of-after.result.value.items } ∷ []) c.of-before.ensures
+    ∙ ap (λ (f : Shelf). c.self.inside.steps.items ++ record { before = c.self.inside.store.files.items; after = f.items } ∷ []) c.of-after.ensures in (
       done,
-      subst (λ s. Serves 1 tells before (g.R.Remote.outside c.answer-reply.new.remote).handed c.args.by line done s (state_of c.answer-reply.new.self c.push.new.self.items c.push-2.new.self.items room)) c.self.view_is
-          (subst (λ x. Serves 1 tells before x c.args.by line done (state_of c.self.inside.store c.self.inside.records.items c.self.inside.steps.items has) (state_of c.answer-reply.new.self c.push.new.self.items c.push-2.new.self.items room)) (sym cause.handed)
-          (serves tells cause.more before c.args.by line done old new c.self.inside.records.items c.push.new.self.items c.self.inside.steps.items c.push-2.new.self.items has room c.requires.actor refl (rw c.unwrap.ensures at c.push.ensures.items)
-          (subst (λ x. Did 1 (Holds tells x) c.args.by line.call done old new) cause.handed (c.answer-reply.ensures.did given line.line)))),
+      subst (λ s. Serves 1 kept tells before (g.R.Remote.outside c.answer-reply.new.remote).handed c.args.by line done s (state_of c.answer-reply.new.self c.push.new.self.items c.push-2.new.self.items room)) c.self.view_is
+          (subst (λ x. Serves 1 kept tells before x c.args.by line done (state_of c.self.inside.store c.self.inside.records.items c.self.inside.steps.items has) (state_of c.answer-reply.new.self c.push.new.self.items c.push-2.new.self.items room)) (sym cause.handed)
+          (serves kept tells cause.more before c.args.by line done old new c.self.inside.records.items c.push.new.self.items c.self.inside.steps.items c.push-2.new.self.items has room c.requires.actor refl (rw c.unwrap.ensures at c.push.ensures.items)
+          (subst (λ x. Did 1 (Knows kept tells x) c.args.by line.call done old new) cause.handed (c.answer-reply.ensures.did given line.line)))),
       cause,
-      subst (λ s. TakesStep line.call done s (state_of c.answer-reply.new.self c.push.new.self.items c.push-2.new.self.items room)) c.self.view_is
-          (record { added = added; cause = c.answer-reply.ensures.read_cause line.line }),
+      subst (λ s. TakesStep c.args.plan.now faults faults' line.call done s (state_of c.answer-reply.new.self c.push.new.self.items c.push-2.new.self.items room)) c.self.view_is
+          (record { added = added; placed = stepped.0; does = stepped.1 }),
     )
 
+pub returns-clause-lends : goal.returns-clause-lends
+returns-clause-lends g c = lends_files g.D.CacheDisk.tells c.answer-reply.new.self.files.items (g.D.CacheDisk.disk c.answer-reply.new.disk) c.answer-reply.ensures.lends
+
 pub returns-clause-given : goal.returns-clause-given
-returns-clause-given g c = c.answer-reply.ensures.given (subst (λ s. AreGiven g.O.Object.tells (g.R.Remote.outside c.args.remote.now).handed s.pairs) (sym c.self.view_is) c.requires.given)
+returns-clause-given g c = c.answer-reply.ensures.given (subst (λ s. AreGiven g.O.Object.tells (g.R.Remote.outside c.args.remote.now).handed (given_all s.items)) (sym c.self.view_is) c.requires.given)

@@ -1,4 +1,4 @@
-use Rattle.std.proofs.Common.{◌≡◌, ◌∙◌, ap, sym, None, replicate, reverse}
+use Rattle.std.proofs.Common.{◌∙◌, ap, sym, arith, length, reverse}
 use Rattle.one_session.specs.Causes.{ends_gone}
 use Rattle.one_session.specs.State.{file_at}
 use Rattle.one_session.specs.Views.{histories}
@@ -10,6 +10,7 @@ pub returns-clause-sound : goal.returns-clause-sound
 returns-clause-sound g c = record {
   sound = sound_none _ _ _ _ c.new.ensures.entries c.new-2.ensures (ap histories c.new-3.ensures.items) (c.in-Ok.ensures.items_if_clones_equal (none_by _ (λ k h. absurd h)));
   limit = c.new.ensures.limit ∙ sym c.new-3.ensures.limit;
+  items = λ n lt. absurd (omega (arith, lt, ap length c.new-3.ensures.items));
   settled = λ path. ap (λ l. ends_gone (reverse l) path) c.new.ensures.entries;
 }
 

@@ -1,5 +1,0 @@
-use Rattle.memory_item.proofs.Steps.{after_opened}
-use Rattle.memory_item.proofs.item.MemoryItem.open_handle.Goals as goal
-
-pub invariant_of-self : goal.invariant_of-self
-invariant_of-self g c = after_opened _ _ _ _ _ c.args.by _ _ _ _ _ _ c.self.invariant c.push.ensures.past c.entry.ensures

@@ -1,0 +1,12 @@
+use Rattle.std.proofs.Common.{◌<◌, ap, sym, subst, length}
+use Rattle.one_session.specs.Slots.{IsSoundItem, ItemStands}
+use Rattle.one_session.specs.State.{item_in}
+use Rattle.one_session.proofs.files.Files.into_logs.Goals as goal
+
+pub logs_of-requires-clause-items : goal.logs_of-requires-clause-items
+logs_of-requires-clause-items g c = let e = ap (λ v. v.items) c.self.view_is in
+    (c.args.self.limit, λ n lt. subst (λ l. IsSoundItem g.F.CacheFile.tells c.args.self.limit n (item_in l n)) (sym e) (c.requires.items n (subst (λ l. n < length l) e lt)))
+
+pub returns-clause-images : goal.returns-clause-images
+returns-clause-images g c = let e = ap (λ v. v.items) c.self.view_is in
+    λ t n lt. subst (λ l. ItemStands g.O.Object.tells (item_in l n) ((g.D.CacheDisk.disk c.logs_of.new.disk).shelf n).now) e (c.logs_of.ensures.images t n (subst (λ l. n < length l) (sym e) lt))

@@ -1,0 +1,17 @@
+use Rattle.std.proofs.Common.{false, length}
+use Rattle.vfs_names.specs.declared.who.By.{By}
+use Rattle.vfs_names.specs.declared.who.Actor.TheVariants.{Session}
+use Rattle.cache_memory.specs.Disks.{disk_of}
+use Rattle.remote_memory.specs.Stores.{outside_of}
+use Rattle.one_session.specs.Causes.{AreGiven}
+use Rattle.one_session.specs.Slots.{Lends}
+use Rattle.one_session.specs.Views.{given_all}
+use Rattle.one_session.specs.Whole.{IsUpTo}
+use Rattle.one_session.proofs.tests.serve.Given as goal
+
+abbrev pub invariant-loop-line : goal.invariant-loop-line
+invariant-loop-line l = record {
+  later : IsUpTo (record { who = record { epoch = 0; phase = 1; actor = Session 1 }; pass = 0; tree = false; now = 7 }) l.session.files;
+  lends : Lends (Unit {0}) (length l.session.files) (disk_of l.disk);
+  given : AreGiven (Unit {0}) (outside_of l.remote).handed (given_all l.session.items);
+}
