@@ -10,12 +10,18 @@ use std::test::Fail;
 use vfs_names::VPath;
 use vfs_outside::{MemorySink, MemorySource, OpenGate, Remote, ScriptClock};
 
+mod cached;
+mod cuts;
+mod disk_faults;
+mod disk_image;
 mod disk_stops;
 mod folder;
 mod objects;
 mod odd_remote;
 mod phases;
+mod plain;
 mod replaced;
+mod steps;
 
 use odd_remote::OddRemote;
 

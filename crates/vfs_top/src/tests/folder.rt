@@ -15,7 +15,7 @@ const LAST_CUBE: usize = 26_730_899;
 /// The files of one run, which prints their bytes in hexadecimal digits, some megabytes.
 const PART: usize = 50;
 
-const LONGEST: usize = 131_072;
+pub const LONGEST: usize = 131_072;
 
 /// Writes a file anew, with its modification time in milliseconds.
 pub fn put(rt: &HostRuntime, name: &str, bytes: &[u8], mtime: u64) -> io::Result<()> {
@@ -59,7 +59,7 @@ fn pattern(alloc: Global) -> Result<Vec<u8>, Fail> {
 }
 
 /// The number of bytes of a file: from 0 to the largest, growing with the cube of the file's number.
-fn size_of(n: usize) -> usize {
+pub fn size_of(n: usize) -> usize {
     let cube = n.saturating_mul(n).saturating_mul(n);
     cube.saturating_mul(LARGEST) / LAST_CUBE
 }
@@ -90,7 +90,7 @@ fn digit_of(value: u8) -> u8 {
 }
 
 /// These bytes in hexadecimal digits.
-fn hex_of(alloc: Global, bytes: &[u8]) -> Result<Vec<u8>, Fail> {
+pub fn hex_of(alloc: Global, bytes: &[u8]) -> Result<Vec<u8>, Fail> {
     let mut text = Vec::with_capacity(alloc, bytes.len().saturating_mul(2))?;
     for byte in bytes {
         text.push(digit_of(*byte / 16))?;
@@ -100,7 +100,7 @@ fn hex_of(alloc: Global, bytes: &[u8]) -> Result<Vec<u8>, Fail> {
 }
 
 /// The reply of a read at this line, of bytes that are given in hexadecimal digits.
-fn push_read(
+pub fn push_read(
     alloc: Global,
     text: &mut Vec<u8>,
     line: usize,
