@@ -25,3 +25,6 @@ pub use base_object::BaseState;
 pub use book::ItemBook;
 pub use look::Look;
 pub use parts::Parts;
+
+#[cfg(test)]
+mod tests;
