@@ -68,6 +68,8 @@ impl<O: Object, F: CacheFile> ItemBook<O, F> {
           pending = self.new.pending;
           slot = self.new.slot;
         }) }
+        ensures calls { IfOk result (λ done. IsTrue done → self.new.slot.calls
+            ≡ self.old.slot.calls + settling self.old.pending + 1) }
         ensures full { (result ≡ Err Refusal.HistoryFull)
             ↔ (IsEvictable self.old.log.past × IsFull self.old 1) }
         ensures causes { IfErr result (IsDiskCause self.old self.new) }

@@ -239,6 +239,7 @@ fn fetch_part<O: Object, F: CacheFile>(
     ensures here { (p : ℕ) → has meta.old.ranges p ≡ true → has meta.new.ranges p ≡ true }
     ensures object { IsLaterOf base.old.object base.new.object }
     ensures state { Loses result base.old.state base.new.state }
+    ensures settled { OnOk result (meta.new.intent ≡ None) }
     ensures same { meta.new
         ≡ record meta.old { ranges = meta.new.ranges; intent = meta.new.intent } }
     ensures lost { (held : Fingerprint) (found : Found) → base.old.state ≡ BaseState.Lost held found
@@ -259,8 +260,8 @@ fn fetch_part<O: Object, F: CacheFile>(
 }
 
 impl<O: Object, F: CacheFile> ItemBook<O, F> {
-    /// Makes the next pull that the rules say for the span's bytes, and stores those of its bytes that
-    /// aren't here. Says how many these are. Adds no entry.
+    /// Makes the next pull that the rules say for the span's bytes, and stores those of its bytes
+    /// that aren't here. Says how many these are. Adds no entry.
     ///
     /// Costs a walk over the ranges of bytes that the cache has, as each save does.
     pub fn fetch(&mut self, plan: &Plan, span: Span) -> Result<u64, Refusal>
@@ -277,6 +278,8 @@ impl<O: Object, F: CacheFile> ItemBook<O, F> {
         ensures here { (p : ℕ) → has self.old.here p ≡ true → has self.new.here p ≡ true }
         ensures object { IsLaterOf self.old.base.object self.new.base.object }
         ensures state { Loses result self.old.base.state self.new.base.state }
+        ensures settled { OnOk result (Lacks self.old.here (object_part self.old.log.past span)
+            → self.new.pending ≡ false) }
         ensures lost { (held : Fingerprint) (found : Found)
             → self.old.base.state ≡ BaseState.Lost held found
             → Lacks self.old.here (object_part self.old.log.past span)
@@ -345,6 +348,7 @@ impl<O: Object, F: CacheFile> ItemBook<O, F> {
         ensures here { (p : ℕ) → has self.old.here p ≡ true → has self.new.here p ≡ true }
         ensures object { IsLaterOf self.old.base.object self.new.base.object }
         ensures state { Loses result self.old.base.state self.new.base.state }
+        ensures settled { OnOk result (self.new.pending ≡ false) }
         ensures lost { (held : Fingerprint) (found : Found)
             → self.old.base.state ≡ BaseState.Lost held found → Lacks self.old.here part
             → result ≡ Err (Refusal.Stale held found) }

@@ -1,4 +1,4 @@
-ghost use Rattle.std.specs.Prelude.{◌≡◌, ◌⊎◌, ◌<◌, ◌≤◌, ◌+◌, ◌++◌, ◌^◌, ◌↔◌, ℕ, min, length, Some, None, true, OnOk, List, OnErr, IfOk, IfErr, IsErrAnd};
+ghost use Rattle.std.specs.Prelude.{◌≡◌, ◌⊎◌, ◌<◌, ◌≤◌, ◌+◌, ◌++◌, ◌^◌, ◌↔◌, ℕ, min, length, Some, None, true, false, OnOk, List, OnErr, IfOk, IfErr, IsErrAnd};
 ghost use Rattle.byte_ranges.specs.Ranges.{has};
 ghost use Rattle.vfs_names.specs.declared.fingerprint.Fingerprint.{Fingerprint};
 ghost use Rattle.vfs_names.specs.declared.refusal.Found.{Found};
@@ -86,8 +86,8 @@ impl<O: Object, F: CacheFile> ItemBook<O, F> {
     /// The bytes from `pos` to the lesser of `pos + len` and the size. Those that the object is to
     /// give and that aren't here are pulled by the plan, and stay here.
     ///
-    /// A write that is pending is settled first. Each run of bytes that are here is read by one call;
-    /// a read of nothing, or from the size on, makes none.
+    /// A write that is pending is settled first. Each run of bytes that are here is read by one
+    /// call; a read of nothing, or from the size on, makes none.
     pub fn read(&mut self, plan: &Plan, by: By, pos: u64, len: u64) -> Result<Blob, Refusal>
         requires chunk { HasChunk plan.now.chunk }
         requires open { 0 < opens_by by.pass self.old.log.past }
@@ -109,6 +109,8 @@ impl<O: Object, F: CacheFile> ItemBook<O, F> {
         ensures here { (p : ℕ) → has self.old.here p ≡ true → has self.new.here p ≡ true }
         ensures object { IsLaterOf self.old.base.object self.new.base.object }
         ensures state { Loses result self.old.base.state self.new.base.state }
+        ensures settled { OnOk result (0 < shown self.old.log.past pos len
+            → self.new.pending ≡ false) }
         ensures lost { (held : Fingerprint) (found : Found)
             → self.old.base.state ≡ BaseState.Lost held found
             → Lacks self.old.here (needed self.old.log.past pos len)
@@ -168,6 +170,8 @@ impl<O: Object, F: CacheFile> ItemBook<O, F> {
         ensures here { (p : ℕ) → has self.old.here p ≡ true → has self.new.here p ≡ true }
         ensures object { IsLaterOf self.old.base.object self.new.base.object }
         ensures state { Loses result self.old.base.state self.new.base.state }
+        ensures settled { OnOk result (0 < shown self.old.log.past pos len
+            → self.new.pending ≡ false) }
         ensures lost { (held : Fingerprint) (found : Found)
             → self.old.base.state ≡ BaseState.Lost held found
             → Lacks self.old.here (needed self.old.log.past pos len)

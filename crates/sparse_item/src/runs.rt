@@ -57,8 +57,8 @@ fn read_run<F: CacheFile>(
     }
 }
 
-/// Reads those of the bytes from `pos` on that are here into a buffer, each run of them by one call.
-/// The buffer's other bytes stay as they are.
+/// Reads those of the bytes from `pos` on that are here into a buffer, each run of them by one
+/// call. The buffer's other bytes stay as they are.
 pub fn read_runs<F: CacheFile>(
     slot: &mut SlotFile<F>,
     here: &RangeSet,

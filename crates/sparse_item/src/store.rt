@@ -15,8 +15,8 @@ use item_meta::Meta;
 use std::alloc::Global;
 use vfs_outside::{CacheFile, DiskError};
 
-/// Writes the first run of a block's bytes from `at` on and before `end` that aren't here. Says up to
-/// where they all are then.
+/// Writes the first run of a block's bytes from `at` on and before `end` that aren't here. Says up
+/// to where they all are then.
 fn put_run<F: CacheFile>(
     slot: &mut SlotFile<F>,
     here: &RangeSet,
@@ -28,7 +28,8 @@ fn put_run<F: CacheFile>(
     requires some { at < end }
     requires within { end ≤ block.now.pos + length block.now.bytes }
     requires small { end ≤ 2 ^ 40 }
-    ensures ok { IfOk result (λ next. (before : Slot) → Puts F.tells here.now block.now at before slot.old
+    ensures ok { IfOk result (λ next. (before : Slot)
+        → Puts F.tells here.now block.now at before slot.old
         → Puts F.tells here.now block.now next before slot.new) }
     ensures further { IfOk result (λ next. at < next) }
     ensures most { IfOk result (λ next. next ≤ end) }
@@ -72,8 +73,8 @@ fn put_runs<F: CacheFile>(
     Ok(())
 }
 
-/// Stores a block: those of its bytes below the base end that aren't here are written, and then it is
-/// saved that they are here.
+/// Stores a block: those of its bytes below the base end that aren't here are written, and then it
+/// is saved that they are here.
 pub fn store<F: CacheFile>(
     alloc: Global,
     slot: &mut SlotFile<F>,
