@@ -179,7 +179,10 @@ fn are_kept(rt: &HostRuntime, cache: &str, files: Range<usize>) -> Result<bool, 
 fn small_files_of_a_cache_folder_are_kept_whole(rt: HostRuntime) -> Result<(), Fail> {
     for files in [0..50, 50..100, 100..150, 150..200] {
         let first = files.start;
-        assert!(rt; are_kept(&rt, "vfs_top_cache_small", files)?, "from {first}");
+        assert!(rt;
+            are_kept(&rt, "vfs_top_cache_small", files)?,
+            "from {first}"
+        );
     }
     Ok(())
 }
@@ -205,7 +208,8 @@ fn the_largest_files_of_a_cache_folder_are_kept_whole(rt: HostRuntime) -> Result
 const WRITE: &str = "s1 open 0 a.txt rw create\ns1 write 0 0 text:hello\n";
 
 /// What a write saves, the write itself pending: its data may not be there yet.
-const SAVED: &str = "{\"atime\":0,\"base\":null,\"base_end\":0,\"dirty\":true,\"intent\":{\"bytes\":\"68656c6c6f\",\"pos\":0},\"mtime\":0,\"path\":\"a.txt\",\"ranges\":[[0,5]],\"size\":5,\"v\":1}";
+const SAVED: &str =
+    "{\"atime\":0,\"base\":null,\"base_end\":0,\"dirty\":true,\"intent\":{\"bytes\":\"68656c6c6f\",\"pos\":0},\"mtime\":0,\"path\":\"a.txt\",\"ranges\":[[0,5]],\"size\":5,\"v\":1}";
 
 #[test]
 fn a_write_saves_this_text(rt: HostRuntime) -> Result<(), Fail> {
