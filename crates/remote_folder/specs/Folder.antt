@@ -45,6 +45,12 @@ remote_error trouble.Gone = remote.Missing
 remote_error trouble.Failed = remote.Failed
 remote_error trouble.NoMemory = remote.NoMemory
 
+-- the error that a store answers to a call that names nothing in it
+abbrev pub plain_error : Trouble → RemoteError
+plain_error trouble.Gone = remote.Failed
+plain_error trouble.Failed = remote.Failed
+plain_error trouble.NoMemory = remote.NoMemory
+
 -- the error that an object answers
 abbrev pub object_error : Trouble → ObjectError
 object_error trouble.Gone = object.Changed

@@ -1,9 +1,11 @@
 ghost use Rattle.std.specs.Prelude.{◌≡◌, ◌-◌, IfOk, length, string_bytes};
 ghost use Rattle.remote_folder.specs.Names.{file_name};
 
+use crate::stamp::Stamp;
 use crate::trouble::Trouble;
 use std::alloc::Global;
 use std::fs::{Files, Metadata};
+use std::io::ErrorKind;
 use vfs_names::{NoMemory, VPath};
 
 /// Where a path of a folder stands in the file system.
@@ -64,6 +66,33 @@ impl Place {
             Ok(files.metadata(self.name())?)
         } else {
             Ok(files.symlink_metadata(self.name())?)
+        }
+    }
+
+    /// Whether the folder itself is a directory, or a link to one.
+    fn has_folder(&self, files: &impl Files) -> Result<bool, Trouble> {
+        match self.name.as_str().get(..self.folder_len) {
+            Some(folder) => Ok(files.metadata(folder)?.is_dir()),
+            None => Ok(false),
+        }
+    }
+
+    /// The plain file that stands at the place, and None where nothing does, so that a file can be put there. `Gone`
+    /// where a name on the way to the place is a link or no directory, and where anything but a plain file stands there.
+    pub fn look_free(&self, files: &impl Files) -> Result<Option<Stamp>, Trouble> {
+        if !self.has_folder(files)? || !self.has_way(files)? {
+            return Err(Trouble::Gone);
+        }
+        match files.symlink_metadata(self.name()) {
+            Ok(seen) => match Stamp::of(&seen) {
+                Some(stamp) => Ok(Some(stamp)),
+                None => Err(Trouble::Gone),
+            },
+            Err(error) => match error.kind() {
+                ErrorKind::NotFound => Ok(None),
+                ErrorKind::InvalidFilename => Err(Trouble::Failed),
+                _ => Err(Trouble::from(error)),
+            },
         }
     }
 }

@@ -1,19 +1,20 @@
-ghost use Rattle.std.specs.Prelude.{◌≡◌, ◌+◌, ◌-◌, ◌^◌, [], ◌∷◌, min, IfOk, IfSome, OnErr, OnOk, None, string_bytes};
+ghost use Rattle.std.specs.Prelude.{◌≡◌, ◌≢◌, ◌+◌, ◌-◌, ◌^◌, [], ◌∷◌, min, IfOk, IfSome, IsSome, OnErr, OnOk, None, length, string_bytes};
 ghost use Rattle.vfs_outside.specs.Outside.{HasNames, IsCall, IsNumbered, MayBeMissing, MayFail, StaysAlone, nothing};
 ghost use Rattle.remote_folder.specs.Rows.{IsAscending};
 ghost use Rattle.remote_folder.specs.Folder.{attached_to, outside_of};
 
+use crate::held::{make_file, remove_all_left};
 use crate::object::FolderObject;
 use crate::place::Place;
 use crate::rows::{is_other_name, rows_at};
+use crate::stage::FolderStage;
 use crate::stamp::Stamp;
 use crate::told::Told;
 use crate::trouble::Trouble;
 use std::alloc::Global;
 use std::fs;
-use std::fs::Files;
-use std::os::unix::fs::FileExt;
-use vfs_names::VPath;
+use std::fs::{File, Files};
+use vfs_names::{Fingerprint, VPath};
 use vfs_outside::{Listing, Object, Remote, RemoteError, Rows};
 
 /// The length in bytes of the longest name of a folder: with a path's 1,024 bytes after it, it is still shorter than the
@@ -26,6 +27,8 @@ pub struct FolderRemote<R: Files> {
     alloc: Global,
     files: R,
     folder: Option<String>,
+    // the least number that the next stage's file may have
+    next_stage: u64,
     told: Told,
 }
 
@@ -45,7 +48,7 @@ fn ready<R: Files + Clone + Drop>(alloc: Global, files: &R, name: &str) -> Resul
     }
 }
 
-impl<R: Files + Clone + Drop> FolderRemote<R> {
+impl<R: Files<File = File> + Clone + Drop> FolderRemote<R> {
     /// A store that has no folder yet: each call but `attach` answers Failed. Makes no call on `files`.
     pub fn new(alloc: Global, files: R) -> FolderRemote<R>
         ensures handed { (outside_of result).handed ≡ [] }
@@ -57,6 +60,7 @@ impl<R: Files + Clone + Drop> FolderRemote<R> {
             alloc,
             files,
             folder: None,
+            next_stage: 0,
             told: Told::new(alloc),
         }
     }
@@ -96,22 +100,61 @@ impl<R: Files + Clone + Drop> FolderRemote<R> {
         let files = self.files.clone()?;
         Ok(FolderObject::new(alloc, files, path, place, stamp))
     }
+
+    /// A stage with no bytes.
+    fn new_stage(&mut self, alloc: Global) -> Result<FolderStage<R>, Trouble>
+        ensures rest { self.new ≡ record self.old { next_stage = self.new.next_stage } }
+        ensures empty { IfOk result (λ s. s.len ≡ 0) }
+        ensures unattached { attached_to self.old ≡ None → result ≡ Err Trouble.Failed }
+    {
+        let Some(folder) = &self.folder else {
+            return Err(Trouble::Failed);
+        };
+        let files = self.files.clone()?;
+        let held = make_file(alloc, &self.files, folder.as_str(), self.next_stage)?;
+        self.next_stage = held.number.saturating_add(1);
+        Ok(FolderStage::new(files, held))
+    }
+
+    /// Puts a stage's file at a path. Gives its fingerprint.
+    fn put(
+        &self,
+        alloc: Global,
+        stage: FolderStage<R>,
+        path: &VPath,
+    ) -> Result<Fingerprint, Trouble>
+        ensures size { IfOk result (λ print. print.size ≡ stage.len) }
+        ensures rev { IfOk result (λ print. print.rev ≡ 0) }
+        ensures unattached { attached_to self.now ≡ None → result ≡ Err Trouble.Failed }
+    {
+        let Some(folder) = &self.folder else {
+            return Err(Trouble::Failed);
+        };
+        let place = Place::new(alloc, folder.as_str(), path)?;
+        stage.put_at(&place)
+    }
 }
 
-impl<R: Files + Clone + Drop> Remote for FolderRemote<R>
-where
-    R::File: FileExt,
-{
+impl<R: Files<File = File> + Clone + Drop> Remote for FolderRemote<R> {
     type Object = FolderObject<R>;
+
+    type Stage = FolderStage<R>;
 
     ghost tells = { ⊥ };
 
     ghost outside = { λ r. outside_of r };
 
+    ghost staged = { λ s. [] };
+
+    ghost stage_len = { λ s. s.len };
+
     ghost told_objects = { λ t. absurd t };
+
+    ghost told_stages = { λ t. absurd t };
 
     /// The folder is made where it isn't there, with those above it, and must be a directory that can be read. Where it
     /// isn't, the folder that was attached before stays so. Objects stay those of the folder in which they were opened.
+    /// The files of stages that nobody holds are removed from it, as those of a process that was killed.
     fn attach(&mut self, name: &str) -> Result<(), RemoteError>
         ensures call { IsCall MayFail nothing (outside_of self.old) (outside_of self.new) result }
         ensures lists { (outside_of self.new).lists ≡ (outside_of self.old).lists }
@@ -121,12 +164,11 @@ where
     {
         match ready(self.alloc, &self.files, name) {
             Ok(folder) => {
+                let _swept = remove_all_left(self.alloc, &self.files, name);
                 self.folder = Some(folder);
                 Ok(())
             }
-            Err(Trouble::NoMemory) => Err(RemoteError::NoMemory),
-            Err(Trouble::Gone) => Err(self.told.refuse(Trouble::Failed)),
-            Err(Trouble::Failed) => Err(self.told.refuse(Trouble::Failed)),
+            Err(trouble) => Err(self.told.fail(trouble)),
         }
     }
 
@@ -156,6 +198,65 @@ where
                 Ok(()) => Ok(object),
                 Err(_) => Err(RemoteError::NoMemory),
             },
+            Err(trouble) => Err(self.told.refuse(trouble)),
+        }
+    }
+
+    /// The stage's bytes stand in a new file of the folder.
+    fn stage(&mut self, alloc: Global) -> Result<FolderStage<R>, RemoteError>
+        ensures call { IsCall MayFail nothing (outside_of self.old) (outside_of self.new) result }
+        ensures lists { (outside_of self.new).lists ≡ (outside_of self.old).lists }
+        ensures alone { StaysAlone (outside_of self.old) (outside_of self.new) }
+        ensures empty { IfOk result (λ s. s.len ≡ 0) }
+        ensures unattached { attached_to self.old ≡ None → result ≡ Err RemoteError.Failed }
+        ensures folder { attached_to self.new ≡ attached_to self.old }
+    {
+        match self.new_stage(alloc) {
+            Ok(stage) => Ok(stage),
+            Err(trouble) => Err(self.told.fail(trouble)),
+        }
+    }
+
+    fn append(&mut self, stage: &mut FolderStage<R>, bytes: &[u8]) -> Result<(), RemoteError>
+        ensures call { IsCall MayFail nothing (outside_of self.old) (outside_of self.new) result }
+        ensures lists { (outside_of self.new).lists ≡ (outside_of self.old).lists }
+        ensures alone { StaysAlone (outside_of self.old) (outside_of self.new) }
+        ensures longer { OnOk result (stage.new.len ≡ stage.old.len + length bytes.now) }
+        ensures folder { attached_to self.new ≡ attached_to self.old }
+    {
+        match stage.append(bytes) {
+            Ok(()) => Ok(()),
+            Err(trouble) => Err(self.told.fail(trouble)),
+        }
+    }
+
+    /// Renames the stage's file. Its modification time is the system's, and not the one that is given; where that isn't
+    /// later than the time of a file of the same size that stood at the path, it is one millisecond later than that.
+    /// Missing also where a name on the way to the path is a link, and where anything but a plain file stands there.
+    fn commit(
+        &mut self,
+        alloc: Global,
+        stage: FolderStage<R>,
+        path: &VPath,
+        _mtime: u64,
+    ) -> Result<Fingerprint, RemoteError>
+        requires { path.now ≢ [] }
+        ensures call { IsCall MayBeMissing (λ print. (print, []) ∷ [])
+            (outside_of self.old) (outside_of self.new) result }
+        ensures lists { (outside_of self.new).lists ≡ (outside_of self.old).lists }
+        ensures size { IfOk result (λ print. print.size ≡ stage.len) }
+        ensures rev { IfOk result (λ print. print.rev ≡ 0) }
+        ensures unattached { OnOk result (IsSome (attached_to self.old)) }
+        ensures folder { attached_to self.new ≡ attached_to self.old }
+    {
+        let Ok(()) = self.told.make_room() else {
+            return Err(RemoteError::NoMemory);
+        };
+        match self.put(alloc, stage, path) {
+            Ok(print) => {
+                self.told.hand_out_in_room(print);
+                Ok(print)
+            }
             Err(trouble) => Err(self.told.refuse(trouble)),
         }
     }

@@ -1,4 +1,4 @@
-ghost use Rattle.std.specs.Prelude.{◌≡◌, IfNone, IfSome};
+ghost use Rattle.std.specs.Prelude.{◌≡◌, ◌≢◌, ◌≤◌, ◌+◌, ◌-◌, ◌^◌, min, IfNone, IfSome};
 ghost use Rattle.std.specs.Fs.{IsFile, file_type, metadata_len};
 ghost use Rattle.remote_folder.specs.Stamps.{millis};
 
@@ -26,6 +26,19 @@ impl Moment {
         };
         secs.saturating_mul(1000).saturating_add(nanos / 1_000_000)
     }
+}
+
+/// The modification time in milliseconds that a new file is to have in place of an old one, and None where its own will
+/// do. So files of one size that follow each other have rising times, also within one tick of the system's clock.
+pub fn time_in_place(old: Fingerprint, new: Fingerprint) -> Option<u64>
+    ensures later { IfSome result (λ time. time ≡ min (old.mtime + 1) (2 ^ 64 - 1)) }
+    ensures near { IfSome result (λ time. (new.size ≡ old.size) × (new.mtime ≤ old.mtime)) }
+    ensures other { IfNone result (new.size ≡ old.size → new.mtime ≢ old.mtime) }
+{
+    if new.size != old.size || new.mtime > old.mtime || old.mtime - new.mtime > 1000 {
+        return None;
+    }
+    Some(old.mtime.saturating_add(1))
 }
 
 /// What tells one plain file, as it was at some moment, from any other file and from itself after a change.
@@ -61,6 +74,13 @@ impl Stamp {
                 nanos: metadata.ctime_nsec(),
             },
         })
+    }
+
+    /// How many bytes the file has.
+    pub fn size(&self) -> u64
+        ensures { result ≡ self.now.size }
+    {
+        self.size
     }
 
     /// The fingerprint of the file, whose revision is 0.

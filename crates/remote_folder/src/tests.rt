@@ -1,11 +1,11 @@
 mod changes;
 mod fake;
 mod folders;
+mod stages;
 
 use crate::*;
 use std::alloc::Global;
 use std::fs::Files;
-use std::os::unix::fs::FileExt;
 use std::test::Fail;
 use std::time::{Duration, UNIX_EPOCH};
 use std::{fs, io};
@@ -32,14 +32,11 @@ fn attached(rt: &HostRuntime, name: &str) -> Result<FolderRemote<HostRuntime>, F
 }
 
 /// The rows of a directory, one in a line: the name, and the size of a file with its time, or a slash.
-fn listed<R: Files + Clone + Drop>(
+fn listed<R: Files<File = fs::File> + Clone + Drop>(
     alloc: Global,
     remote: &mut FolderRemote<R>,
     dir: &str,
-) -> Result<String, Fail>
-where
-    R::File: FileExt,
-{
+) -> Result<String, Fail> {
     let listing = remote.list(alloc, &VPath::parse(alloc, dir)?)?;
     let mut text = String::new(alloc);
     for row in listing.rows() {

@@ -1,6 +1,7 @@
-ghost use Rattle.std.specs.Prelude.{◌≡◌, ◌≤◌, [], ◌∷◌, OnErr, OnOk};
-ghost use Rattle.vfs_outside.specs.Outside.{IsCause, MayBeMissing};
-ghost use Rattle.remote_folder.specs.Folder.{changes_after, faults_after, remote_error, told_by};
+ghost use Rattle.std.specs.Prelude.{◌≡◌, ◌<◌, ◌≤◌, [], ◌∷◌, OnErr, OnOk, vec_len};
+ghost use Rattle.std.specs.Vec.{vec_capacity};
+ghost use Rattle.vfs_outside.specs.Outside.{IsCause, MayBeMissing, MayFail};
+ghost use Rattle.remote_folder.specs.Folder.{changes_after, faults_after, plain_error, remote_error, told_by};
 
 use crate::trouble::Trouble;
 use std::alloc::Global;
@@ -40,6 +41,42 @@ impl Told {
         match self.handed.push(Snapshot::of(&print)) {
             Ok(()) => Ok(()),
             Err(_) => Err(NoMemory),
+        }
+    }
+
+    /// Room for one more fingerprint.
+    pub fn make_room(&mut self) -> Result<(), NoMemory>
+        ensures same { told_by self.new ≡ told_by self.old }
+        ensures room { OnOk result (vec_len self.new.handed < vec_capacity self.new.handed) }
+    {
+        match self.handed.reserve(1) {
+            Ok(()) => Ok(()),
+            Err(_) => Err(NoMemory),
+        }
+    }
+
+    /// The fingerprint of an object that is handed out, for which there is room.
+    pub fn hand_out_in_room(&mut self, print: Fingerprint)
+        requires { vec_len self.old.handed < vec_capacity self.old.handed }
+        ensures { told_by self.new ≡ record (told_by self.old) {
+          handed = (print, []) ∷ (told_by self.old).handed;
+        } }
+    {
+        self.handed.push_reserved(Snapshot::of(&print));
+    }
+
+    /// Counts what went wrong in a call that names nothing in the store, and gives the error for it.
+    pub fn fail(&mut self, trouble: Trouble) -> RemoteError
+        ensures error { result ≡ plain_error trouble }
+        ensures rest { self.new ≡ record self.old { faults = self.new.faults } }
+        ensures faults { self.old.faults ≤ self.new.faults }
+        ensures may_come { MayFail result }
+        ensures cause { IsCause (told_by self.old) (told_by self.new) result }
+    {
+        match trouble {
+            Trouble::Gone => self.refuse(Trouble::Failed),
+            Trouble::Failed => self.refuse(Trouble::Failed),
+            Trouble::NoMemory => RemoteError::NoMemory,
         }
     }
 

@@ -106,14 +106,14 @@ thing_or : (a b : Option Node) → thing_in (option_or a b) ≡ option_or (thing
 thing_or None b = refl
 thing_or (Some x) b = refl
 
-things-append : (xs ys : List Node) (q : List ℕ) → thing_in (node_at (xs ++ ys) q) ≡ option_or (thing_in (node_at xs q)) (thing_in (node_at ys q))
+pub things-append : (xs ys : List Node) (q : List ℕ) → thing_in (node_at (xs ++ ys) q) ≡ option_or (thing_in (node_at xs q)) (thing_in (node_at ys q))
 things-append xs ys q = ap thing_in (find-append (λ (n : Node). same_text n.path q) xs ys) ∙ thing_or (node_at xs q) (node_at ys q)
 
-or_none : (o : Option Thing) → option_or o None ≡ o
+pub or_none : (o : Option Thing) → option_or o None ≡ o
 or_none None = refl
 or_none (Some x) = refl
 
-one_thing : (s : Bool) (node : Node) → thing_in (cond s (Some node) None) ≡ (if s then Some (thing_of node.kept) else None)
+pub one_thing : (s : Bool) (node : Node) → thing_in (cond s (Some node) None) ≡ (if s then Some (thing_of node.kept) else None)
 one_thing true node = refl
 one_thing false node = refl
 
@@ -154,7 +154,7 @@ thing_left : (b : Bool) (o : Option Node) → thing_in (if b then None else o) �
 thing_left true o = refl
 thing_left false o = refl
 
-things_left : (g : List ℕ → Bool) (nodes : List Node) (q : List ℕ) → thing_in (node_at (filter (λ (n : Node). not (g n.path)) nodes) q) ≡ (if g q then None else thing_in (node_at nodes q))
+pub things_left : (g : List ℕ → Bool) (nodes : List Node) (q : List ℕ) → thing_in (node_at (filter (λ (n : Node). not (g n.path)) nodes) q) ≡ (if g q then None else thing_in (node_at nodes q))
 things_left g nodes q = ap thing_in (left_out g nodes q) ∙ thing_left (g q) (node_at nodes q)
 
 pub not_zero : (n : ℕ) → false ≡ (n == 0) → n ≢ 0
@@ -162,7 +162,7 @@ not_zero zero h z = absurd (cc)
 not_zero (suc n) h z = omega (arith, z)
 
 -- the root has no path but its own
-at_root : (path : List ℕ) → path ≢ [] → same_text path [] ≡ false
+pub at_root : (path : List ℕ) → path ≢ [] → same_text path [] ≡ false
 at_root path n = differ_texts path [] n
 
 -- an object was put

@@ -2,3 +2,4 @@ mod Beneath
 mod Choices
 mod Listed
 mod Others
+mod Puts

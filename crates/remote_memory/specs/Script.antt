@@ -16,3 +16,6 @@ CountsListing call.Attach old new done = new ≡ old
 CountsListing call.List old new true = old < new
 CountsListing call.List old new false = old ≤ new
 CountsListing call.OpenObject old new done = new ≡ old
+CountsListing call.Stage old new done = new ≡ old
+CountsListing call.Append old new done = new ≡ old
+CountsListing call.Commit old new done = new ≡ old

@@ -30,7 +30,7 @@ outside_with stock faults others = record {
 abbrev pub outside_of : MemoryRemote → Outside
 outside_of r = outside_with r.stock r.faults r.others
 
--- how many objects were put, which is the revision of the last one
+-- how many objects were put or committed, which is the revision of the last one
 abbrev pub puts_of : MemoryRemote → ℕ
 puts_of r = r.stock.revs
 
@@ -57,11 +57,12 @@ plans_of r = record {
   changing_pulls = r.pull_changes.items;
 }
 
--- changes of others were met: each is counted, and nothing moves but what stands in the store
+-- changes of others were met: each is counted, and nothing moves but what stands in the store and the last revision
 pub record MetOthers (old new : MemoryRemote) : Type 0 where
   pub handed : new.stock.handed ≡ old.stock.handed
   pub changes : new.stock.changes ≡ old.stock.changes
   pub lists : new.stock.lists ≡ old.stock.lists
+  pub revs : old.stock.revs ≤ new.stock.revs
   pub faults : new.faults ≡ old.faults
   pub others : old.others ≤ new.others
   pub alone : new.others ≡ 0 → new.stock.nodes.items ≡ old.stock.nodes.items

@@ -8,11 +8,13 @@ mod object;
 mod remote;
 mod rows;
 mod script;
+mod stage;
 mod stock;
 
 pub use object::{MemoryObject, MemoryStream};
 pub use remote::MemoryRemote;
 pub use script::{Change, RemoteCall};
+pub use stage::MemoryStage;
 
 #[cfg(test)]
 mod tests;

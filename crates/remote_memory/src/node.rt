@@ -1,7 +1,10 @@
-ghost use Rattle.std.specs.Prelude.{◌≡◌, IfOk, IfSome, IfNone, MatchBool, ◌≢◌};
+ghost use Rattle.std.specs.Prelude.{◌≡◌, ◌≢◌, ◌<◌, ◌≤◌, [], IfOk, IfSome, IfNone, MatchBool, Some, filter, not, vec_len};
 ghost use Rattle.std.specs.Option.{option_copied};
-ghost use Rattle.vfs_outside.specs.Store.{Dir, File, IsFile};
-ghost use Rattle.remote_memory.specs.Nodes.{fingerprint_of, node_at, store_of};
+ghost use Rattle.std.specs.Vec.{vec_capacity};
+ghost use Rattle.vfs_names.specs.Path.{same_text};
+ghost use Rattle.vfs_outside.specs.Store.{CanPut, Dir, File, IsFile, SameStore, with};
+ghost use Rattle.remote_memory.specs.declared.node.Node.{Node};
+ghost use Rattle.remote_memory.specs.Nodes.{fingerprint_of, node_at, store_of, thing_of};
 
 use std::alloc::Global;
 use vfs_names::{Blob, Fingerprint, NoMemory, VPath};
@@ -91,4 +94,39 @@ pub fn is_dir(nodes: &[Node], dir: &VPath) -> bool
         },
         None => false,
     }
+}
+
+/// Whether an object can be put at the path: its parent is a directory, and none stands at the path itself.
+pub fn can_put(alloc: Global, nodes: &[Node], path: &VPath) -> Result<bool, NoMemory>
+    ensures { IfOk result (λ can. MatchBool can (CanPut path.now (store_of nodes.now)) (¬ (CanPut path.now (store_of nodes.now)))) }
+{
+    if is_dir(nodes, path) {
+        return Ok(false);
+    }
+    let Ok(found) = path.parent(alloc) else {
+        return Err(NoMemory);
+    };
+    let Some(parent) = found else {
+        return Ok(false);
+    };
+    Ok(is_dir(nodes, &parent))
+}
+
+/// Takes the nodes of a path away.
+fn take_path(nodes: &mut Vec<Node>, path: &VPath)
+    ensures items { nodes.new.items ≡ filter (λ (n : Node). not (same_text path.now n.path)) nodes.old.items }
+    ensures len { vec_len nodes.new ≤ vec_len nodes.old }
+    ensures capacity { vec_capacity nodes.new ≡ vec_capacity nodes.old }
+{
+    nodes.retain(|node| *path != node.path);
+}
+
+/// The node stands at its path, in place of what stood there.
+pub fn put_node(nodes: &mut Vec<Node>, node: Node)
+    requires path { node.path ≢ [] }
+    requires room { vec_len nodes.old < vec_capacity nodes.old }
+    ensures { SameStore (store_of nodes.new.items) (with node.path (Some (thing_of node.kept)) (store_of nodes.old.items)) }
+{
+    take_path(nodes, &node.path);
+    nodes.push_reserved(node);
 }

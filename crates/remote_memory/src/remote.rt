@@ -1,7 +1,7 @@
-ghost use Rattle.std.specs.Prelude.{◌≡◌, ◌≢◌, ◌+◌, ◌++◌, ◌<◌, ◌≤◌, ℕ, [], ◌∷◌, IfOk, OnOk, OnErr, OnSome, if◌then◌else◌, is_ok, is_some, length, vec_len};
+ghost use Rattle.std.specs.Prelude.{◌≡◌, ◌≢◌, ◌+◌, ◌++◌, ◌<◌, ◌≤◌, ℕ, [], ◌∷◌, IfOk, OnOk, OnErr, OnSome, if◌then◌else◌, is_ok, is_some, length, refl, vec_len};
 ghost use Rattle.std.specs.Option.{option_copied};
 ghost use Rattle.vfs_outside.specs.Outside.{IsCall, MayBeMissing, MayFail, Outside, StaysAlone, nothing};
-ghost use Rattle.vfs_outside.specs.Told.{FindsObject};
+ghost use Rattle.vfs_outside.specs.Told.{FindsObject, PutsObject};
 ghost use Rattle.vfs_outside.specs.Store.{File, SameStore};
 ghost use Rattle.remote_memory.specs.Nodes.{bytes_in, fingerprint_of, store_of, with_object, without};
 ghost use Rattle.remote_memory.specs.Script.{CountsListing, changed_path};
@@ -11,6 +11,7 @@ ghost use Rattle.remote_memory.specs.declared.object.MemoryObject.{MemoryObject}
 use crate::node::object_at;
 use crate::object::MemoryObject;
 use crate::script::{Change, Fault, Planned, PullAt, RemoteCall, pulls_at};
+use crate::stage::MemoryStage;
 use crate::stock::Stock;
 use std::alloc::Global;
 use vfs_names::{Blob, Fingerprint, NoMemory, VPath};
@@ -23,6 +24,9 @@ pub struct MemoryRemote {
     stock: Stock,
     attaches: u64,
     opens: u64,
+    stages: u64,
+    appends: u64,
+    commits: u64,
     // how many calls of any kind there were
     calls: u64,
     faults: u64,
@@ -48,6 +52,9 @@ impl MemoryRemote {
             stock: Stock::new(alloc),
             attaches: 0,
             opens: 0,
+            stages: 0,
+            appends: 0,
+            commits: 0,
             calls: 0,
             faults: 0,
             others: 0,
@@ -223,6 +230,9 @@ impl MemoryRemote {
           stock = record self.old.stock { lists = self.new.stock.lists };
           attaches = self.new.attaches;
           opens = self.new.opens;
+          stages = self.new.stages;
+          appends = self.new.appends;
+          commits = self.new.commits;
         } }
         ensures counts { CountsListing call self.old.stock.lists self.new.stock.lists (is_some result) }
     {
@@ -236,6 +246,18 @@ impl MemoryRemote {
                 self.opens = self.opens.saturating_add(1);
                 Some(self.opens)
             }
+            RemoteCall::Stage => {
+                self.stages = self.stages.saturating_add(1);
+                Some(self.stages)
+            }
+            RemoteCall::Append => {
+                self.appends = self.appends.saturating_add(1);
+                Some(self.appends)
+            }
+            RemoteCall::Commit => {
+                self.commits = self.commits.saturating_add(1);
+                Some(self.commits)
+            }
         }
     }
 
@@ -243,6 +265,7 @@ impl MemoryRemote {
     fn begin(&mut self, call: RemoteCall) -> Result<(), RemoteError>
         ensures call { IsCall MayFail nothing (outside_of self.old) (outside_of self.new) result }
         ensures lists { CountsListing call self.old.stock.lists self.new.stock.lists (is_ok result) }
+        ensures revs { self.old.stock.revs ≤ self.new.stock.revs }
         ensures alone { StaysAlone (outside_of self.old) (outside_of self.new) }
     {
         self.calls = self.calls.saturating_add(1);
@@ -284,11 +307,19 @@ impl MemoryRemote {
 impl Remote for MemoryRemote {
     type Object = MemoryObject;
 
+    type Stage = MemoryStage;
+
     ghost tells = { Unit {0} };
 
     ghost outside = { outside_of };
 
+    ghost staged = { λ s. s.bytes };
+
+    ghost stage_len = { λ s. length s.bytes };
+
     ghost told_objects = { λ t. t };
+
+    ghost told_stages = { λ t s. refl };
 
     fn attach(&mut self, _name: &str) -> Result<(), RemoteError> {
         self.begin(RemoteCall::Attach)
@@ -304,6 +335,47 @@ impl Remote for MemoryRemote {
     fn open_object(&mut self, alloc: Global, path: &VPath) -> Result<MemoryObject, RemoteError> {
         match self.begin(RemoteCall::OpenObject) {
             Ok(()) => self.open_now(alloc, path),
+            Err(why) => Err(why),
+        }
+    }
+
+    fn stage(&mut self, alloc: Global) -> Result<MemoryStage, RemoteError> {
+        match self.begin(RemoteCall::Stage) {
+            Ok(()) => Ok(MemoryStage::new(alloc)),
+            Err(why) => Err(why),
+        }
+    }
+
+    fn append(&mut self, stage: &mut MemoryStage, bytes: &[u8]) -> Result<(), RemoteError> {
+        match self.begin(RemoteCall::Append) {
+            Ok(()) => match stage.append(bytes) {
+                Ok(()) => Ok(()),
+                Err(_) => Err(RemoteError::NoMemory),
+            },
+            Err(why) => Err(why),
+        }
+    }
+
+    /// The object has the time that is given, and a revision that no object of this store had before.
+    fn commit(
+        &mut self,
+        alloc: Global,
+        stage: MemoryStage,
+        path: &VPath,
+        mtime: u64,
+    ) -> Result<Fingerprint, RemoteError>
+        requires { path.now ≢ [] }
+        ensures call { IsCall MayBeMissing (λ print. (print, stage.bytes) ∷ [])
+            (outside_of self.old) (outside_of self.new) result }
+        ensures lists { (outside_of self.new).lists ≡ (outside_of self.old).lists }
+        ensures size { IfOk result (λ print. print.size ≡ length stage.bytes) }
+        ensures mtime { IfOk result (λ print. print.mtime ≡ mtime) }
+        ensures rev { IfOk result (λ print. print.rev ≡ puts_of self.new) }
+        ensures newer { OnOk result (puts_of self.old < puts_of self.new) }
+        ensures told { PutsObject path.now stage.bytes (outside_of self.old) (outside_of self.new) result }
+    {
+        match self.begin(RemoteCall::Commit) {
+            Ok(()) => self.stock.commit(alloc, path, stage.bytes, mtime),
             Err(why) => Err(why),
         }
     }

@@ -12,6 +12,9 @@ pub enum RemoteCall {
     Attach,
     List,
     OpenObject,
+    Stage,
+    Append,
+    Commit,
 }
 
 /// What somebody else does to a store: puts an object, with its modification time in milliseconds, or deletes what

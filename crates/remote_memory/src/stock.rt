@@ -1,8 +1,9 @@
-ghost use Rattle.std.specs.Prelude.{◌≡◌, ◌≢◌, ◌+◌, ◌<◌, ◌≤◌, ℕ, [], ◌∷◌, IfOk, IfSome, OnOk, OnErr, IfNone, ◌^◌, ◌-◌, ◌||◌, not, filter, length, vec_len};
+ghost use Rattle.std.specs.Prelude.{◌≡◌, ◌≢◌, ◌+◌, ◌<◌, ◌≤◌, ℕ, [], ◌∷◌, IfOk, IfSome, OnOk, OnErr, IfNone, ◌^◌, ◌-◌, ◌||◌, not, filter, if◌then◌else◌, is_ok, length, vec_len};
 ghost use Rattle.std.specs.Vec.{vec_capacity};
 ghost use Rattle.vfs_names.specs.Path.{same_text};
+ghost use Rattle.vfs_outside.specs.Causes.{Rose};
 ghost use Rattle.vfs_outside.specs.Outside.{HasNames, IsCall, MayBeMissing, nothing};
-ghost use Rattle.vfs_outside.specs.Told.{FindsObject, ShowsRows};
+ghost use Rattle.vfs_outside.specs.Told.{FindsObject, PutsObject, ShowsRows};
 ghost use Rattle.vfs_outside.specs.Store.{File, SameStore};
 ghost use Rattle.remote_memory.specs.Nodes.{AddsAbove, fingerprint_of, gives_way, is_below, store_of, with_object, without};
 ghost use Rattle.remote_memory.specs.declared.node.Node.{Node};
@@ -10,7 +11,7 @@ ghost use Rattle.remote_memory.specs.Stores.{outside_with};
 ghost use Rattle.remote_memory.specs.declared.object.MemoryObject.{MemoryObject};
 
 use crate::below::is_below;
-use crate::node::{Kept, Node, Stored, is_dir, object_at};
+use crate::node::{Kept, Node, Stored, can_put, is_dir, object_at, put_node};
 use crate::object::MemoryObject;
 use crate::rows::rows_of;
 use std::alloc::Global;
@@ -163,6 +164,17 @@ impl Stock {
         Some(number)
     }
 
+    /// Counts that what a call names isn't there, and answers so.
+    fn missing(&mut self) -> RemoteError
+        ensures error { result ≡ RemoteError.Missing }
+        ensures rest { self.new ≡ record self.old { changes = self.new.changes } }
+        ensures later { self.old.changes ≤ self.new.changes }
+        ensures rose { Rose self.old.changes self.new.changes }
+    {
+        self.changes = self.changes.saturating_add(1);
+        RemoteError::Missing
+    }
+
     /// The rows of a directory, with the number of the last listing.
     pub fn list(&mut self, alloc: Global, dir: &VPath) -> Result<Listing, RemoteError>
         ensures call { (faults others : ℕ) → IsCall MayBeMissing nothing
@@ -182,8 +194,7 @@ impl Stock {
                 Err(_) => Err(RemoteError::NoMemory),
             }
         } else {
-            self.changes = self.changes.saturating_add(1);
-            Err(RemoteError::Missing)
+            Err(self.missing())
         }
     }
 
@@ -208,8 +219,7 @@ impl Stock {
             (outside_with self.old faults others) (outside_with self.new faults others) result }
     {
         let Some(found) = object_at(self.nodes.as_slice(), path) else {
-            self.changes = self.changes.saturating_add(1);
-            return Err(RemoteError::Missing);
+            return Err(self.missing());
         };
         let Ok(path) = path.copy(alloc) else {
             return Err(RemoteError::NoMemory);
@@ -231,5 +241,48 @@ impl Stock {
             faults: 0,
             changes: 0,
         })
+    }
+    /// The object of these bytes stands at the path, in place of the one that stood there.
+    pub fn commit(
+        &mut self,
+        alloc: Global,
+        path: &VPath,
+        bytes: Blob,
+        mtime: u64,
+    ) -> Result<Fingerprint, RemoteError>
+        requires { path.now ≢ [] }
+        ensures call { (faults others : ℕ) → IsCall MayBeMissing (λ print. (print, bytes) ∷ [])
+            (outside_with self.old faults others) (outside_with self.new faults others) result }
+        ensures lists { self.new.lists ≡ self.old.lists }
+        ensures print { IfOk result (λ print. print ≡
+            record { size = length bytes; mtime = mtime; rev = self.new.revs }) }
+        ensures rev { self.new.revs ≡ (if is_ok result then self.old.revs + 1 else self.old.revs) }
+        ensures told { (faults others : ℕ) → PutsObject path.now bytes
+            (outside_with self.old faults others) (outside_with self.new faults others) result }
+    {
+        match can_put(alloc, self.nodes.as_slice(), path) {
+            Ok(true) => {}
+            Ok(false) => return Err(self.missing()),
+            Err(_) => return Err(RemoteError::NoMemory),
+        }
+        let Some(rev) = self.revs.checked_add(1) else {
+            return Err(RemoteError::NoMemory);
+        };
+        let Ok(path) = path.copy(alloc) else {
+            return Err(RemoteError::NoMemory);
+        };
+        let Ok(()) = self.nodes.reserve(1) else {
+            return Err(RemoteError::NoMemory);
+        };
+        let Ok(()) = self.handed.reserve(1) else {
+            return Err(RemoteError::NoMemory);
+        };
+        let object = Stored { mtime, rev, bytes };
+        let print = object.print();
+        self.handed.push_reserved(Snapshot::of(&object));
+        let kept = Kept::File(object);
+        put_node(&mut self.nodes, Node { path, kept });
+        self.revs = rev;
+        Ok(print)
     }
 }

@@ -1,7 +1,7 @@
 use crate::*;
 use std::alloc::Global;
 use std::test::Fail;
-use vfs_names::{Blob, VPath};
+use vfs_names::{Blob, Fingerprint, VPath};
 use vfs_outside::{Object, ObjectError, Remote, RemoteError};
 
 fn put_at(
@@ -136,5 +136,102 @@ fn planned_faults_and_changes_come(rt: HostRuntime) -> Result<(), Fail> {
     );
     let listing = remote.list(rt.alloc(), &root)?;
     assert_eq!(rt; listing.number, 2);
+    Ok(())
+}
+
+/// Puts these bytes at the path by a stage, in two pieces.
+fn upload(
+    remote: &mut MemoryRemote,
+    alloc: Global,
+    path: &str,
+    bytes: &[u8],
+    mtime: u64,
+) -> Result<Fingerprint, RemoteError> {
+    let (first, rest) = bytes.split_at(bytes.len() / 2);
+    let mut stage = remote.stage(alloc)?;
+    remote.append(&mut stage, first)?;
+    remote.append(&mut stage, rest)?;
+    let Ok(path) = VPath::parse(alloc, path) else {
+        return Err(RemoteError::NoMemory);
+    };
+    if path.is_root() {
+        return Err(RemoteError::NoMemory);
+    }
+    remote.commit(alloc, stage, &path, mtime)
+}
+
+#[test]
+fn a_commit_puts_a_stage_whole(rt: HostRuntime) -> Result<(), Fail> {
+    let alloc = rt.alloc();
+    let mut remote = MemoryRemote::new(alloc);
+    assert_eq!(rt; put_at(&mut remote, alloc, "d/old", b"old", 1)?, 1);
+    let table = [
+        ("new", b"hello".as_slice(), 7, Ok(b"5.7.2".as_slice())),
+        ("new", b"HELLO".as_slice(), 7, Ok(b"5.7.3".as_slice())),
+        ("d/old", b"".as_slice(), 9, Ok(b"0.9.4".as_slice())),
+        ("d/e", b"x".as_slice(), 0, Ok(b"1.0.5".as_slice())),
+        ("d", b"x".as_slice(), 0, Err(RemoteError::Missing)),
+        ("e/f", b"x".as_slice(), 0, Err(RemoteError::Missing)),
+        ("new/f", b"x".as_slice(), 0, Err(RemoteError::Missing)),
+    ];
+    for (path, bytes, mtime, expected) in table {
+        let answer = upload(&mut remote, alloc, path, bytes, mtime);
+        assert_eq!(rt; answer.err(), expected.err(), "{path}");
+        if let (Ok(print), Ok(text)) = (answer, expected) {
+            assert_eq!(rt; print.text(alloc)?.as_slice(), text);
+            let path = VPath::parse(alloc, path)?;
+            assert_eq!(rt; remote.bytes_of(&path), Some(bytes));
+            assert_eq!(rt; remote.open_object(alloc, &path)?.print(), print);
+        }
+    }
+    assert_eq!(rt; put_at(&mut remote, alloc, "a", b"", 1)?, 6);
+    assert_eq!(rt;
+        remote.list(alloc, &VPath::parse(alloc, "d")?)?.rows().len(),
+        2
+    );
+    Ok(())
+}
+
+#[test]
+fn a_stage_that_is_dropped_leaves_nothing(rt: HostRuntime) -> Result<(), Fail> {
+    let alloc = rt.alloc();
+    let mut remote = MemoryRemote::new(alloc);
+    {
+        let mut stage = remote.stage(alloc)?;
+        remote.append(&mut stage, b"dropped")?;
+    }
+    assert_eq!(rt; remote.list(alloc, &VPath::root(alloc))?.rows().len(), 0);
+    assert_eq!(rt; upload(&mut remote, alloc, "a", b"kept", 3)?.rev, 1);
+    Ok(())
+}
+
+#[test]
+fn planned_faults_of_an_upload_come(rt: HostRuntime) -> Result<(), Fail> {
+    let alloc = rt.alloc();
+    let path = VPath::parse(alloc, "a")?;
+    assert!(rt; !path.is_root());
+    for call in [RemoteCall::Stage, RemoteCall::Append, RemoteCall::Commit] {
+        let mut remote = MemoryRemote::new(alloc);
+        assert_eq!(rt; put_at(&mut remote, alloc, "a", b"old", 1)?, 1);
+        remote.fail(call, 1)?;
+        let failed = upload(&mut remote, alloc, "a", b"new", 2);
+        assert_eq!(rt; failed, Err(RemoteError::Failed), "{call:?}");
+        assert_eq!(rt; remote.bytes_of(&path), Some(b"old".as_slice()));
+        assert_eq!(rt; upload(&mut remote, alloc, "a", b"new", 2)?.rev, 2);
+        assert_eq!(rt; remote.bytes_of(&path), Some(b"new".as_slice()));
+    }
+    Ok(())
+}
+
+#[test]
+fn others_change_what_a_commit_meets(rt: HostRuntime) -> Result<(), Fail> {
+    let alloc = rt.alloc();
+    let mut remote = MemoryRemote::new(alloc);
+    let below = VPath::parse(alloc, "a/b")?;
+    assert!(rt; !below.is_root());
+    remote.outside(4, Change::Put(below, Blob::new(alloc), 1))?;
+    let refused = upload(&mut remote, alloc, "a", b"x", 2);
+    assert_eq!(rt; refused, Err(RemoteError::Missing));
+    assert_eq!(rt; upload(&mut remote, alloc, "a/b", b"x", 2)?.rev, 2);
     Ok(())
 }

@@ -1,7 +1,7 @@
 -- What a directory shows at each name.
 use Rattle.std.specs.Prelude.{ℕ, List, Option}
 use Rattle.std.specs.Option.{option_map}
-use Rattle.std.specs.HashMap.{get_by_text}
+use Rattle.std.specs.HashMap.{get_by_text, spare}
 use Rattle.vfs_names.specs.declared.fingerprint.Fingerprint.{Fingerprint}
 use Rattle.vfs_outside.specs.Told.{row_of}
 use Rattle.vfs_outside.specs.declared.listing.Kind.{Kind}
@@ -26,3 +26,7 @@ shown_by rows name = option_map shown_of (row_of name rows)
 -- what a directory shows at a name: the value at the text with these bytes
 abbrev pub shown_in : ShownRows → List ℕ → Option Shown
 shown_in shown name = get_by_text shown.map name
+
+-- how many more names a directory can show without taking memory
+abbrev pub room_in : ShownRows → ℕ
+room_in shown = spare shown.map

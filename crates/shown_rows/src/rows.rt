@@ -1,9 +1,9 @@
-ghost use Rattle.std.specs.Prelude.{◌≡◌, ◌≢◌, ℕ, List, None, Some, if◌then◌else◌, IfOk, OnOk, string_bytes};
+ghost use Rattle.std.specs.Prelude.{◌≡◌, ◌≢◌, ℕ, ◌<◌, List, None, Some, if◌then◌else◌, IfOk, OnOk, string_bytes};
 ghost use Rattle.std.specs.Str.{IsUtf8};
 ghost use Rattle.vfs_names.specs.Path.{same_text};
 ghost use Rattle.vfs_outside.specs.Outside.{HasNames};
 ghost use Rattle.vfs_outside.specs.RowName.{IsRowName};
-ghost use Rattle.shown_rows.specs.Shown.{shown_by, shown_in, shown_of};
+ghost use Rattle.shown_rows.specs.Shown.{room_in, shown_by, shown_in, shown_of};
 
 use indexmap::IndexMap;
 use std::alloc::Global;
@@ -109,5 +109,28 @@ impl ShownRows {
             unreachable!();
         };
         *shown = Shown::Object(print);
+    }
+
+    /// Makes room for one more name.
+    pub fn reserve(&mut self) -> Result<(), NoMemory>
+        ensures ok { OnOk result (0 < room_in self.new) }
+        ensures shown { (name : List ℕ) → shown_in self.new name ≡ shown_in self.old name }
+    {
+        match self.map.reserve(1) {
+            Ok(()) => Ok(()),
+            Err(_) => Err(NoMemory),
+        }
+    }
+
+    /// The name shows an object with this fingerprint, whatever it showed; takes no memory.
+    pub fn put_object(&mut self, name: String, print: Fingerprint)
+        requires room { 0 < room_in self.old }
+        ensures { (name' : List ℕ) → shown_in self.new name'
+            ≡ (if same_text (string_bytes name) name' then Some (Shown.Object print)
+            else shown_in self.old name') }
+    {
+        let Ok(_) = self.map.insert(name, Shown::Object(print)) else {
+            unreachable!();
+        };
     }
 }

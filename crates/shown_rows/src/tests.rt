@@ -116,6 +116,71 @@ fn names_are_shown_until_they_are_removed(rt: HostRuntime) -> Result<(), Fail> {
     Ok(())
 }
 
+fn put_object(shown: &mut ShownRows, alloc: Global, name: &str, rev: u64) -> Result<(), Fail> {
+    let text = String::from_str(alloc, name)?;
+    shown.reserve()?;
+    shown.put_object(text, print(rev));
+    Ok(())
+}
+
+#[test]
+fn making_room_changes_nothing(rt: HostRuntime) -> Result<(), Fail> {
+    let rows = listed(rt.alloc())?;
+    let mut shown = shown_of(rt.alloc(), rows.as_slice())?;
+    let mut none = ShownRows::new(rt.alloc());
+    for _ in 0..100 {
+        shown.reserve()?;
+        none.reserve()?;
+    }
+    let object = |rev| Some(Shown::Object(print(rev)));
+    let table = [
+        ("ab", Some(Shown::Dir)),
+        ("a", object(2)),
+        ("b.txt", object(3)),
+        ("été", object(4)),
+        ("b", None),
+        ("", None),
+    ];
+    for (name, expected) in table {
+        assert_eq!(rt; get(&shown, rt.alloc(), name)?, expected, "{name}");
+        assert_eq!(rt; get(&none, rt.alloc(), name)?, None, "{name}");
+    }
+    Ok(())
+}
+
+fn put_objects(shown: &mut ShownRows, alloc: Global) -> Result<(), Fail> {
+    put_object(shown, alloc, "b", 5)?;
+    put_object(shown, alloc, "a", 6)?;
+    put_object(shown, alloc, "ab", 7)?;
+    put_object(shown, alloc, "c/d", 8)?;
+    put_object(shown, alloc, "c", 9)?;
+    put_object(shown, alloc, "c", 10)?;
+    remove(shown, alloc, "c/d")
+}
+
+#[test]
+fn objects_are_put_over_what_is_shown(rt: HostRuntime) -> Result<(), Fail> {
+    let rows = listed(rt.alloc())?;
+    let mut shown = shown_of(rt.alloc(), rows.as_slice())?;
+    put_objects(&mut shown, rt.alloc())?;
+    let object = |rev| Some(Shown::Object(print(rev)));
+    let table = [
+        ("ab", object(7)),
+        ("a", object(6)),
+        ("b.txt", object(3)),
+        ("été", object(4)),
+        ("b", object(5)),
+        ("c", object(10)),
+        ("c/d", None),
+        ("abc", None),
+        ("", None),
+    ];
+    for (name, expected) in table {
+        assert_eq!(rt; get(&shown, rt.alloc(), name)?, expected, "{name}");
+    }
+    Ok(())
+}
+
 fn put_many(shown: &mut ShownRows, alloc: Global) -> Result<(), Fail> {
     for rev in 0..10_000u64 {
         let name = format!(in alloc; "name-{rev}")?;

@@ -1,20 +1,16 @@
 -- How a block that was pulled comes into a file's book.
-use Rattle.std.proofs.Common.{◌≡◌, ◌⊎◌, ◌≤◌, ◌<◌, ℕ, ◌+◌, ◌-◌, nat_lt, min, if◌then◌else◌, Bool, true, false, Option, Some, None, List, [], ◌∷◌, length, take, drop, Result, Ok, Err, refl, sym, ap, ◌∙◌, inl, inr, arith, subst, length-take, length-drop}
-use Rattle.std.specs.Prelude.{slice_index, slice_range}
+use Rattle.std.proofs.Common.{◌≡◌, ◌≤◌, ◌<◌, ℕ, ◌+◌, ◌-◌, true, Some, None, List, length, take, drop, refl, sym, ap, ◌∙◌, arith, length-take, length-drop}
+use Rattle.std.specs.Prelude.{slice_index}
 use Rattle.std.proofs.lemmas.List.{get_or-take, get_or-drop}
-use Rattle.std.proofs.lemmas.Bool.{true≢false}
 use Rattle.std.proofs.lemmas.Bool.Decides.{nat_tests}
 use Rattle.byte_ranges.specs.Ranges.{has}
 use Rattle.byte_ranges.specs.declared.Span.{Span}
-use Rattle.vfs_names.specs.Fingerprint.{agree}
-use Rattle.vfs_names.specs.declared.fingerprint.Fingerprint.{Fingerprint}
-use Rattle.vfs_names.specs.declared.refusal.Found.{Found}
 use Rattle.vfs_outside.specs.Image.{is_within}
 use Rattle.vfs_outside.specs.Object.{IsPart}
 use Rattle.vfs_outside.specs.Slot.{Slot}
 use Rattle.item_core.specs.declared.entry.Entry.{Entry}
 use Rattle.item_core.specs.Content.{Known, base_byte}
-use Rattle.item_core.specs.History.{base_end_of, held_by, is_kept}
+use Rattle.item_core.specs.History.{base_end_of, held_by}
 use Rattle.item_meta.specs.declared.meta.Meta.{Meta}
 use Rattle.item_image.specs.Book.{Book}
 use Rattle.item_image.specs.Premise.{Fits, IsBase, Pairs}
@@ -23,15 +19,7 @@ use Rattle.item_image.proofs.Calls.{whole_tears}
 use Rattle.item_image.proofs.Quiet.{no_call, quiet_call}
 use Rattle.item_image.proofs.Stored.{fetched, stored_beside, stored_more, stored_none, stored_present}
 use Rattle.base_object.specs.declared.block.Block.{Block}
-use Rattle.base_object.specs.declared.state.BaseState.{BaseState}
-use Rattle.base_object.specs.declared.state.BaseState.TheVariants.{Absent, Bound, Unbound, Lost}
-use Rattle.base_object.specs.Base.{Base, HasOne, IsBase as IsBaseObject, IsLaterOf, IsReady, ObjectFacts, bytes_of, held_by as held_in}
-use Rattle.base_object.specs.Pulls.{IsBlock}
-use Rattle.sparse_item.specs.Fetching.{Beside, Puts, Stores, after, begins, idles, passes, stays, taken, tears, writes}
-use Rattle.sparse_item.specs.Item.{IsSupplied, Saved, backing}
-use Rattle.sparse_item.specs.Sound.{IsGiven, IsSound}
-use Rattle.sparse_item.proofs.Steps.{more_supplied, kept_backing}
-use Rattle.sparse_item.proofs.Sums.{agree_same}
+use Rattle.sparse_item.specs.Fetching.{Beside, Puts, Stores, after, begins, idles, passes, stays, tears, writes}
 
 -- ---- bytes of a part
 

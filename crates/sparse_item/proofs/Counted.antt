@@ -1,6 +1,5 @@
 -- How many bytes are here, as more of them come.
-use Rattle.std.proofs.Common.{◌≡◌, ◌≤◌, ◌<◌, ℕ, zero, suc, ◌+◌, if◌then◌else◌, Bool, true, false, List, refl, sym, arith, subst}
-use Rattle.std.proofs.lemmas.Bool.{cases_Bool}
+use Rattle.std.proofs.Common.{◌≡◌, ◌≤◌, ℕ, zero, suc, if◌then◌else◌, Bool, true, false, List, refl, arith, subst}
 use Rattle.byte_ranges.specs.Ranges.{IsBelow, count_below, has}
 use Rattle.byte_ranges.specs.declared.Span.{Span}
 

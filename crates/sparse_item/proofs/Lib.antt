@@ -1,3 +1,4 @@
+pub mod Blanked
 pub mod Bringing
 pub mod Counted
 pub mod Given
@@ -10,5 +11,7 @@ pub mod Putting
 pub mod Refusals
 pub mod Shown
 pub mod Steps
+pub mod StoreCalls
 pub mod Sums
+pub mod UploadSteps
 pub mod Writing

@@ -1,13 +1,12 @@
 -- What one pull of a read comes to, by the asks of the rules.
-use Rattle.std.proofs.Common.{◌≡◌, ◌⊎◌, ℕ, ◌+◌, ◌<◌, ◌≤◌, Bool, true, false, ◌||◌, ◌&&◌, nat_le, nat_lt, min, List, [], ◌∷◌, ◌++◌, append_assoc, length, Option, Some, None, Result, Ok, Err, refl, sym, ◌∙◌, ap, subst, inl, inr}
-use Rattle.byte_ranges.specs.Ranges.{is_in}
+use Rattle.std.proofs.Common.{◌≡◌, ℕ, ◌+◌, Bool, ◌||◌, ◌&&◌, nat_le, nat_lt, min, List, [], ◌∷◌, ◌++◌, append_assoc, Err, refl, sym, ◌∙◌, ap, subst, inl, inr}
 use Rattle.byte_ranges.specs.declared.Span.{Span}
 use Rattle.downloaders.specs.declared.Ask.{Ask}
 use Rattle.downloaders.specs.declared.Ask.TheVariants.{Done, Request, Pull}
 use Rattle.downloaders.specs.declared.Plan.{Plan}
 use Rattle.downloaders.specs.Crew.{Team}
 use Rattle.downloaders.specs.Orders.{here_in_the_end, requests_in, team_in_the_end}
-use Rattle.downloaders.specs.Rules.{AreAsks, here_after, team_after}
+use Rattle.downloaders.specs.Rules.{AreAsks, team_after}
 use Rattle.vfs_names.specs.declared.refusal.Refusal.{Refusal}
 use Rattle.vfs_names.specs.declared.refusal.Refusal.TheVariants as refusals
 use Rattle.base_object.specs.declared.block.Block.{Block}

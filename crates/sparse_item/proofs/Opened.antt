@@ -1,12 +1,12 @@
 -- A file with an open handle.
-use Rattle.std.proofs.Common.{◌≡◌, ◌⊎◌, ℕ, ◌+◌, ◌-◌, ◌<◌, ◌≤◌, nat_lt, if◌then◌else◌, Bool, true, false, List, [], ◌∷◌, refl, sym, ◌∙◌, arith}
+use Rattle.std.proofs.Common.{◌≡◌, ℕ, ◌+◌, ◌-◌, ◌<◌, nat_lt, if◌then◌else◌, true, List, [], ◌∷◌, refl, arith}
 use Rattle.std.proofs.lemmas.Bool.Decides.{nat_tests}
 use Rattle.vfs_names.specs.declared.who.By.{By}
 use Rattle.item_core.specs.declared.entry.Entry.{Entry}
 use Rattle.item_core.specs.declared.entry.FileKind.{FileKind}
 use Rattle.item_core.specs.declared.entry.FileKind.TheVariants.{Create, Recovered, Bind, Adopt, Write, SetSize, Read, Stat, Opened, Closed, Rename, UploadStart, Uploaded, UploadDropped, Evict, Discard, Refused}
 use Rattle.item_core.specs.Effects.{is_closed, is_opened, is_start, kept_after}
-use Rattle.item_core.specs.History.{count_of, is_kept, opens_by, opens_of}
+use Rattle.item_core.specs.History.{count_of, is_kept, opens_of}
 use Rattle.item_core.specs.Legal.{Allows, IsLegal}
 use Rattle.item_core.proofs.Counts.{opens_by_le}
 use Rattle.sparse_item.specs.Sound.{is_begun}

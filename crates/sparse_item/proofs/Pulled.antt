@@ -1,11 +1,10 @@
 -- What a pull says, and how a file's book goes on after it.
-use Rattle.std.proofs.Common.{◌≡◌, ◌⊎◌, ◌≤◌, ◌<◌, ℕ, ◌+◌, ◌-◌, ◌&&◌, ◌||◌, ◌++◌, nat_le, nat_lt, min, Bool, true, false, Option, Some, None, List, [], ◌∷◌, length, Result, Ok, Err, refl, sym, ap, ◌∙◌, inl, inr, arith, subst}
-use Rattle.std.specs.Prelude.{IfErr, IfSome, slice_index}
+use Rattle.std.proofs.Common.{◌≡◌, ◌⊎◌, ◌≤◌, ◌<◌, ℕ, ◌+◌, ◌&&◌, ◌||◌, nat_le, nat_lt, Bool, true, Option, Some, None, List, [], ◌∷◌, Result, Ok, Err, refl, sym, ap, ◌∙◌, inl, inr, arith, subst}
+use Rattle.std.specs.Prelude.{IfSome, slice_index}
 use Rattle.std.proofs.lemmas.Bool.{cases_Bool, true≢false}
 use Rattle.std.proofs.lemmas.Bool.Decides.{nat_tests}
 use Rattle.byte_ranges.specs.Ranges.{has, is_in}
 use Rattle.byte_ranges.specs.declared.Span.{Span}
-use Rattle.vfs_names.specs.Fingerprint.{agree}
 use Rattle.vfs_names.specs.declared.fingerprint.Fingerprint.{Fingerprint}
 use Rattle.vfs_names.specs.declared.refusal.Found.{Found}
 use Rattle.vfs_names.specs.declared.refusal.Found.TheVariants as found
@@ -16,14 +15,14 @@ use Rattle.vfs_outside.specs.Slot.{HasFault, Slot}
 use Rattle.vfs_outside.specs.declared.disk_error.DiskError.{DiskError}
 use Rattle.vfs_outside.specs.declared.disk_error.DiskError.TheVariants.{Failed, NoMemory}
 use Rattle.item_core.specs.declared.entry.Entry.{Entry}
-use Rattle.item_core.specs.Content.{Known, base_byte}
+use Rattle.item_core.specs.Content.{base_byte}
 use Rattle.item_core.specs.History.{base_end_of, held_by, is_kept}
 use Rattle.item_meta.specs.declared.meta.Intent.{Intent}
 use Rattle.item_meta.specs.declared.meta.Meta.{Meta}
-use Rattle.item_meta.specs.InRange.{IsMeta, base_size}
+use Rattle.item_meta.specs.InRange.{base_size}
 use Rattle.item_image.specs.Book.{Book}
 use Rattle.item_image.specs.Next.{IsFetched}
-use Rattle.item_image.specs.Premise.{Fits, Holds, Pairs}
+use Rattle.item_image.specs.Premise.{Pairs}
 use Rattle.downloaders.specs.declared.Ask.{Ask}
 use Rattle.downloaders.specs.declared.Ask.TheVariants.{Done, Request, Pull}
 use Rattle.downloaders.specs.declared.Plan.{Plan}
@@ -32,7 +31,7 @@ use Rattle.downloaders.specs.Rules.{AllHere, AreAsks, IsFirstMissing}
 use Rattle.base_object.specs.declared.block.Block.{Block}
 use Rattle.base_object.specs.declared.state.BaseState.{BaseState}
 use Rattle.base_object.specs.declared.state.BaseState.TheVariants.{Absent, Bound, Unbound, Lost}
-use Rattle.base_object.specs.Base.{Base, HasOne, IsBase, IsLater, IsLaterOf, IsReady, ObjectFacts, bytes_of, changes_of, faults_of, held_by as held_in}
+use Rattle.base_object.specs.Base.{Base, HasOne, IsBase, IsLaterOf, IsReady, ObjectFacts, bytes_of, changes_of, faults_of, held_by as held_in}
 use Rattle.base_object.specs.Pulls.{IsBlock, IsPullCause, Loses}
 use Rattle.sparse_item.specs.Answers.{refusal_for}
 use Rattle.sparse_item.specs.Fetching.{Beside, IsBringCause, Lacks, Stores, taken}

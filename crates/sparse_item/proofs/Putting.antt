@@ -1,6 +1,6 @@
 -- How a block's bytes are put into a slot's file.
-use Rattle.std.proofs.Common.{◌≡◌, ◌≤◌, ◌<◌, ℕ, ◌+◌, ◌-◌, not, Bool, true, false, Option, Some, None, List, length, Result, Ok, Err, refl, sym, ap, ◌∙◌, arith, subst, length-take, length-drop, ◌⊎◌, inl, inr}
-use Rattle.std.specs.Prelude.{slice_index, slice_range}
+use Rattle.std.proofs.Common.{◌≡◌, ◌≤◌, ◌<◌, ℕ, ◌+◌, ◌-◌, not, Bool, true, false, None, List, length, Result, Ok, Err, refl, sym, ap, ◌∙◌, arith, subst, length-take, length-drop, inl, inr}
+use Rattle.std.specs.Prelude.{slice_range}
 use Rattle.std.proofs.lemmas.Bool.{true≢false}
 use Rattle.std.proofs.lemmas.Bool.Decides.{nat_tests}
 use Rattle.byte_ranges.specs.Ranges.{has, is_in, lacks, IsFirstRun, IsFirstRunIn}
@@ -10,10 +10,10 @@ use Rattle.vfs_outside.specs.Slot.{Slot}
 use Rattle.vfs_outside.specs.declared.disk_error.DiskError.{DiskError}
 use Rattle.vfs_outside.specs.declared.disk_error.DiskError.TheVariants.{Failed, NoMemory}
 use Rattle.vfs_outside.specs.declared.file_call.FileCall.TheVariants.{Wrote}
-use Rattle.item_image.specs.Calls.{DoesWrite, Goes, Stays}
+use Rattle.item_image.specs.Calls.{DoesWrite, Goes}
 use Rattle.item_image.proofs.Calls.{whole_tears}
 use Rattle.base_object.specs.declared.block.Block.{Block}
-use Rattle.sparse_item.specs.Fetching.{AreAbsent, AreHere, Beside, Lacks, Puts, after, begins, idles, passes, stays, tears, writes}
+use Rattle.sparse_item.specs.Fetching.{AreAbsent, AreHere, Beside, Lacks, Puts, idles, passes, stays, tears, writes}
 use Rattle.sparse_item.specs.Moves.{Idles}
 use Rattle.sparse_item.proofs.Moved.{no_step}
 

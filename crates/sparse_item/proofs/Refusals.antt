@@ -1,9 +1,8 @@
 -- What a read or a fetch of a file's book comes to.
-use Rattle.std.proofs.Common.{◌≡◌, ◌⊎◌, ◌≤◌, ◌<◌, ℕ, ◌+◌, ◌-◌, min, Bool, true, false, Option, Some, None, List, [], ◌∷◌, length, Result, Ok, Err, refl, sym, ap, ◌∙◌, inl, inr, arith, subst}
+use Rattle.std.proofs.Common.{◌≡◌, ◌⊎◌, ◌≤◌, ◌<◌, ℕ, ◌+◌, ◌-◌, min, Bool, true, Some, List, [], ◌∷◌, Result, Err, refl, sym, ap, ◌∙◌, inl, inr, arith, subst}
 use Rattle.std.proofs.lemmas.Bool.Decides.{nat_tests}
 use Rattle.byte_ranges.specs.Ranges.{has, is_in}
 use Rattle.byte_ranges.specs.declared.Span.{Span}
-use Rattle.vfs_names.specs.Fingerprint.{agree}
 use Rattle.vfs_names.specs.declared.fingerprint.Fingerprint.{Fingerprint}
 use Rattle.vfs_names.specs.declared.refusal.Found.{Found}
 use Rattle.vfs_names.specs.declared.refusal.Found.TheVariants as found
@@ -11,8 +10,8 @@ use Rattle.vfs_names.specs.declared.refusal.Refusal.{Refusal}
 use Rattle.vfs_names.specs.declared.refusal.Refusal.TheVariants as refusals
 use Rattle.vfs_outside.specs.Slot.{Slot}
 use Rattle.item_core.specs.declared.entry.Entry.{Entry}
-use Rattle.item_core.specs.History.{base_end_of, held_by, is_kept, size_of}
-use Rattle.item_core.specs.Legal.{IsDeviceRefusal, IsOther, TellsHeld}
+use Rattle.item_core.specs.History.{base_end_of, held_by, size_of}
+use Rattle.item_core.specs.Legal.{IsDeviceRefusal, IsOther}
 use Rattle.item_meta.specs.declared.meta.Meta.{Meta}
 use Rattle.item_meta.specs.InRange.{IsMeta}
 use Rattle.item_image.specs.Premise.{Pairs}
@@ -20,14 +19,13 @@ use Rattle.downloaders.specs.declared.Ask.{Ask}
 use Rattle.downloaders.specs.declared.Ask.TheVariants.{Done, Request, Pull}
 use Rattle.downloaders.specs.declared.Plan.{Plan}
 use Rattle.downloaders.specs.Crew.{Team}
-use Rattle.downloaders.specs.Orders.{here_in_the_end}
 use Rattle.downloaders.specs.Rules.{AllHere, AreAsks, IsFirstMissing}
 use Rattle.base_object.specs.Base.{Base, IsOther as IsOtherObject, IsReady, held_by as held_in}
 use Rattle.base_object.specs.Pulls.{progress_of}
 use Rattle.sparse_item.specs.Fetching.{Fetches, IsBringCause, Lacks, TellsStale}
-use Rattle.sparse_item.specs.Item.{Item, Saved, backing}
+use Rattle.sparse_item.specs.Item.{Item, Saved}
 use Rattle.sparse_item.specs.Reading.{IsReadCause, needed}
-use Rattle.sparse_item.specs.Sound.{IsSound, is_begun}
+use Rattle.sparse_item.specs.Sound.{IsSound}
 use Rattle.sparse_item.proofs.Pulled.{lost_before}
 use Rattle.sparse_item.proofs.Steps.{kept_backing}
 

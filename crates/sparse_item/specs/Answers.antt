@@ -1,5 +1,5 @@
 -- What calls on a file add to its history, and why they are refused.
-use Rattle.std.specs.Prelude.{◌≡◌, ◌⊎◌, ◌<◌, ◌≤◌, ℕ, ◌+◌, ◌^◌, ◌==◌, ◌++◌, ◌||◌, if◌then◌else◌, Bool, true, false, List, [], ◌∷◌}
+use Rattle.std.specs.Prelude.{◌≡◌, ◌⊎◌, ◌<◌, ◌≤◌, ℕ, ◌+◌, ◌^◌, ◌==◌, ◌++◌, ◌||◌, if◌then◌else◌, true, false, List, [], ◌∷◌}
 use Rattle.byte_ranges.specs.Ranges.{has, is_in}
 use Rattle.byte_ranges.specs.declared.Span.{Span}
 use Rattle.vfs_names.specs.Payload.{payload_len}

@@ -1,5 +1,5 @@
 -- How bytes of the object behind a file come into its slot's file.
-use Rattle.std.specs.Prelude.{◌≡◌, ◌⊎◌, ◌<◌, ◌≤◌, ℕ, ◌+◌, ◌-◌, Bool, true, false, min, length, Option, Some, None, List, Result, Ok, Err}
+use Rattle.std.specs.Prelude.{◌≡◌, ◌⊎◌, ◌<◌, ◌≤◌, ℕ, ◌+◌, ◌-◌, Bool, true, false, min, length, Option, List, Result, Ok, Err}
 use Rattle.byte_ranges.specs.Ranges.{has, is_in}
 use Rattle.byte_ranges.specs.declared.Span.{Span}
 use Rattle.vfs_names.specs.declared.refusal.Found.TheVariants as found

@@ -8,7 +8,7 @@ use Rattle.vfs_names.specs.declared.who.ItemId.{ItemId}
 use Rattle.vfs_names.specs.declared.who.SlotId.{SlotId}
 use Rattle.vfs_outside.specs.Slot.{Slot}
 use Rattle.item_core.specs.declared.entry.Entry.{Entry}
-use Rattle.item_core.specs.History.{base_end_of, held_by, is_kept}
+use Rattle.item_core.specs.History.{held_by, is_kept}
 use Rattle.item_core.specs.Log.{Log}
 use Rattle.item_image.specs.Premise.{Pairs}
 use Rattle.downloaders.specs.Orders.{no_one}

@@ -4,4 +4,7 @@ pub mod Sound
 pub mod Moves
 pub mod Answers
 pub mod Fetching
+pub mod Blanking
 pub mod Reading
+pub mod Uploading
+pub mod Stores

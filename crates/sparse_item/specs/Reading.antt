@@ -1,5 +1,5 @@
 -- What a read shows and leaves.
-use Rattle.std.specs.Prelude.{◌≡◌, ◌⊎◌, ◌<◌, ◌≤◌, ℕ, ◌+◌, ◌-◌, ◌++◌, Bool, true, false, min, length, slice_index, Some, List, [], ◌∷◌}
+use Rattle.std.specs.Prelude.{◌≡◌, ◌<◌, ◌≤◌, ℕ, ◌+◌, ◌-◌, ◌++◌, true, false, min, length, slice_index, Some, List, [], ◌∷◌}
 use Rattle.byte_ranges.specs.Ranges.{has}
 use Rattle.byte_ranges.specs.declared.Span.{Span}
 use Rattle.vfs_names.specs.declared.refusal.Refusal.{Refusal}

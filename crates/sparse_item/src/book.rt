@@ -1,4 +1,4 @@
-ghost use Rattle.std.specs.Prelude.{◌≡◌, ◌⊎◌, ◌<◌, ◌≤◌, ◌↔◌, ◌||◌, ℕ, [], nat_lt, length, if◌then◌else◌, true, false, None, reverse, OnOk, IfErr, OnErr};
+ghost use Rattle.std.specs.Prelude.{◌≡◌, ◌≢◌, ◌⊎◌, ◌<◌, ◌≤◌, ◌↔◌, ◌||◌, ℕ, [], nat_lt, length, if◌then◌else◌, true, false, None, reverse, IfSome, is_some, OnOk, IfErr, OnErr};
 ghost use Rattle.std.specs.Option.{option_copied};
 ghost use Rattle.byte_ranges.specs.Ranges.{IsBelow, count_below, total_length};
 ghost use Rattle.vfs_outside.specs.Image.{meta_in};
@@ -167,6 +167,13 @@ impl<O: Object, F: CacheFile> ItemBook<O, F> {
         self.core.held()
     }
 
+    /// How many handles are open.
+    pub fn opens(&self) -> u32
+        ensures { result ≡ opens_of self.now.log.past }
+    {
+        self.core.opens()
+    }
+
     /// There is content that no upload saved, or a handle is open.
     pub fn is_used(&self) -> bool
         ensures { result ≡ (is_dirty self.now.log.past || nat_lt 0 (opens_of self.now.log.past)) }
@@ -176,8 +183,10 @@ impl<O: Object, F: CacheFile> ItemBook<O, F> {
 
     /// The path of a kept file.
     pub fn path(&self) -> Option<&VPath>
-        ensures { option_copied result ≡ (if is_kept self.now.log.past
+        ensures path { option_copied result ≡ (if is_kept self.now.log.past
             then name_of self.now.log.past self.now.names else None) }
+        ensures kept { is_some result ≡ is_kept self.now.log.past }
+        ensures file { IfSome (option_copied result) (λ path. path ≢ []) }
     {
         match &self.meta {
             Some(meta) => Some(&meta.path),

@@ -197,6 +197,7 @@ pub fn supply<O: Object, F: CacheFile>(
     ensures object { IsLaterOf base.old.object base.new.object }
     ensures state { Loses result base.old.state base.new.state }
     ensures settled { OnOk result (meta.new.intent ≡ None) }
+    ensures meta { OnOk result (IsMeta meta.new) }
     ensures same { meta.new
         ≡ record meta.old { ranges = meta.new.ranges; intent = meta.new.intent } }
     ensures lost { (held : Fingerprint) (found : Found) → base.old.state ≡ BaseState.Lost held found

@@ -5,6 +5,7 @@
 
 mod begin;
 mod bind;
+mod blank;
 mod book;
 mod bytes;
 mod clear;
@@ -19,12 +20,15 @@ mod runs;
 mod settle;
 mod slot;
 mod store;
+mod upload;
+mod uploads;
 mod write;
 
 pub use base_object::BaseState;
 pub use book::ItemBook;
 pub use look::Look;
 pub use parts::Parts;
+pub use upload::Upload;
 
 #[cfg(test)]
 mod tests;

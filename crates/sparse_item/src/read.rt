@@ -37,7 +37,7 @@ use vfs_outside::{CacheFile, Object};
 const MOST: u64 = 131_072;
 
 /// Brings those of a read's bytes that the object is to give, after a write that is pending.
-fn ready<O: Object, F: CacheFile>(
+pub fn ready<O: Object, F: CacheFile>(
     alloc: Global,
     plan: &Plan,
     base: &mut BaseObject<O>,
@@ -64,6 +64,7 @@ fn ready<O: Object, F: CacheFile>(
     ensures object { IsLaterOf base.old.object base.new.object }
     ensures state { Loses result base.old.state base.new.state }
     ensures settled { OnOk result (meta.new.intent ≡ None) }
+    ensures meta { OnOk result (IsMeta meta.new) }
     ensures same { meta.new
         ≡ record meta.old { ranges = meta.new.ranges; intent = meta.new.intent } }
     ensures lost { (held : Fingerprint) (found : Found) → base.old.state ≡ BaseState.Lost held found

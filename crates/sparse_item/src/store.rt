@@ -49,7 +49,7 @@ fn put_run<F: CacheFile>(
 }
 
 /// Writes those of a block's bytes before `end` that aren't here, each run of them by one call.
-fn put_runs<F: CacheFile>(
+pub fn put_runs<F: CacheFile>(
     slot: &mut SlotFile<F>,
     here: &RangeSet,
     block: &Block,

@@ -1,6 +1,6 @@
 -- What stands in a store of objects.
-use Rattle.std.specs.Prelude.{◌≡◌, ℕ, ◌++◌, if◌then◌else◌, Option, Some, None, List, [], ◌∷◌}
-use Rattle.vfs_names.specs.Path.{same_text}
+use Rattle.std.specs.Prelude.{◌≡◌, ◌≢◌, ℕ, ◌++◌, if◌then◌else◌, Option, Some, None, List, [], ◌∷◌}
+use Rattle.vfs_names.specs.Path.{IsParent, same_text}
 use Rattle.vfs_names.specs.declared.fingerprint.Fingerprint.{Fingerprint}
 
 -- a directory, or an object with its fingerprint and its bytes
@@ -29,6 +29,17 @@ abbrev pub IsFile : Option Thing → Type 0
 IsFile None = ⊥
 IsFile (Some Dir) = ⊥
 IsFile (Some (File print bytes)) = Unit {0}
+
+-- a directory stands at the path that the path lies in
+pub record HasParent (path : List ℕ) (store : Store) : Type 0 where
+  pub parent : List ℕ
+  pub above : IsParent parent path
+  pub is_dir : store parent ≡ Some Dir
+
+-- an object can be put at the path: its parent is a directory, and it is none itself
+pub record CanPut (path : List ℕ) (store : Store) : Type 0 where
+  pub parent : HasParent path store
+  pub free : store path ≢ Some Dir
 
 -- what each fingerprint names holds what was handed out with it
 abbrev pub HasHanded : (Fingerprint → List ℕ) → List (Fingerprint × List ℕ) → Type 0

@@ -6,7 +6,7 @@ use Rattle.vfs_names.specs.Path.{same_text}
 use Rattle.vfs_names.specs.declared.fingerprint.Fingerprint.{Fingerprint}
 use Rattle.vfs_outside.specs.Outside.{Outside}
 use Rattle.vfs_outside.specs.RowName.{IsRowName}
-use Rattle.vfs_outside.specs.Store.{Dir, File, IsFile, Store, Thing, child}
+use Rattle.vfs_outside.specs.Store.{CanPut, Dir, File, IsFile, SameStore, Store, Thing, child, with}
 use Rattle.vfs_outside.specs.declared.listing.Kind.TheVariants as kind
 use Rattle.vfs_outside.specs.declared.listing.Listing.{Listing}
 use Rattle.vfs_outside.specs.declared.listing.Row.{Row}
@@ -55,3 +55,11 @@ pub record Finds (print : Fingerprint) (bytes path : List ℕ) (met after : Stor
 
 abbrev pub FindsObject : {O : Type 0} → (O → Fingerprint) → (O → List ℕ) → List ℕ → Outside → Outside → Result O RemoteError → Type 0
 FindsObject print bytes path = Told (λ o. Finds (print o) (bytes o) path) (λ s. ¬ (IsFile (s path)))
+
+-- this is put at the path, where it can be, and nothing else changes
+pub record Puts (path : List ℕ) (thing : Option Thing) (met after : Store) : Type 0 where
+  pub can : CanPut path met
+  pub only : SameStore after (with path thing met)
+
+abbrev pub PutsObject : List ℕ → List ℕ → Outside → Outside → Result Fingerprint RemoteError → Type 0
+PutsObject path bytes = Told (λ print. Puts path (Some (File print bytes))) (λ s. ¬ (CanPut path s))

@@ -57,6 +57,13 @@ impl QueueBook {
         }
     }
 
+    /// What the queue keeps to.
+    pub fn terms(&self) -> QueueTerms
+        ensures { result ≡ self.now.terms }
+    {
+        self.terms
+    }
+
     /// The item is a member and isn't being uploaded.
     pub fn waiting(&self, item: ItemId) -> bool
         ensures { result ≡ is_waiting (past_of self.now) item }

@@ -12,6 +12,10 @@ pub struct OddRemote {
     missing: bool,
 }
 
+/// No stage of the odd store is ever made.
+#[derive(Drop)]
+pub struct NoStage;
+
 impl OddRemote {
     pub fn new(missing: bool) -> OddRemote {
         OddRemote {
@@ -26,6 +30,8 @@ impl OddRemote {
 impl Remote for OddRemote {
     type Object = MemoryObject;
 
+    type Stage = NoStage;
+
     ghost use Rattle.std.specs.Prelude.{None, []};
 
     ghost tells = { ⊥ };
@@ -39,7 +45,13 @@ impl Remote for OddRemote {
       others = 0;
     } };
 
+    ghost staged = { λ s. [] };
+
+    ghost stage_len = { λ s. 0 };
+
     ghost told_objects = { λ t. absurd t };
+
+    ghost told_stages = { λ t. absurd t };
 
     fn attach(&mut self, _name: &str) -> Result<(), RemoteError> {
         Ok(())
@@ -79,5 +91,26 @@ impl Remote for OddRemote {
         }
         let rows = Rows::from_vec(rows);
         Ok(Listing { number, rows })
+    }
+
+    fn stage(&mut self, _alloc: Global) -> Result<NoStage, RemoteError> {
+        self.faults = self.faults.saturating_add(1);
+        Err(RemoteError::Failed)
+    }
+
+    fn append(&mut self, _stage: &mut NoStage, _bytes: &[u8]) -> Result<(), RemoteError> {
+        self.faults = self.faults.saturating_add(1);
+        Err(RemoteError::Failed)
+    }
+
+    fn commit(
+        &mut self,
+        _alloc: Global,
+        _stage: NoStage,
+        _path: &VPath,
+        _mtime: u64,
+    ) -> Result<Fingerprint, RemoteError> {
+        self.faults = self.faults.saturating_add(1);
+        Err(RemoteError::Failed)
     }
 }

@@ -2,6 +2,7 @@ use super::folder::{put, run_remote};
 use super::*;
 use remote_folder::FolderRemote;
 use std::{fs, io};
+use vfs_names::Fingerprint;
 use vfs_outside::{Listing, RemoteError};
 
 const FOLDER: &str = "vfs_top_replaced";
@@ -41,11 +42,19 @@ impl<R: Remote> SharedFolder<R> {
 impl<R: Remote> Remote for SharedFolder<R> {
     type Object = R::Object;
 
+    type Stage = R::Stage;
+
     ghost tells = { ⊥ };
 
     ghost outside = { λ r. R.outside r.inner };
 
+    ghost staged = { R.staged };
+
+    ghost stage_len = { R.stage_len };
+
     ghost told_objects = { λ t. absurd t };
+
+    ghost told_stages = { λ t. absurd t };
 
     fn attach(&mut self, name: &str) -> Result<(), RemoteError> {
         self.inner.attach(name)
@@ -60,6 +69,24 @@ impl<R: Remote> Remote for SharedFolder<R> {
 
     fn list(&mut self, alloc: Global, dir: &VPath) -> Result<Listing, RemoteError> {
         self.inner.list(alloc, dir)
+    }
+
+    fn stage(&mut self, alloc: Global) -> Result<R::Stage, RemoteError> {
+        self.inner.stage(alloc)
+    }
+
+    fn append(&mut self, stage: &mut R::Stage, bytes: &[u8]) -> Result<(), RemoteError> {
+        self.inner.append(stage, bytes)
+    }
+
+    fn commit(
+        &mut self,
+        alloc: Global,
+        stage: R::Stage,
+        path: &VPath,
+        mtime: u64,
+    ) -> Result<Fingerprint, RemoteError> {
+        self.inner.commit(alloc, stage, path, mtime)
     }
 }
 

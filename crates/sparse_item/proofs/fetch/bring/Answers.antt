@@ -1,11 +1,10 @@
-use Rattle.std.proofs.Common.{◌≡◌, ◌∙◌, ℕ, List, [], Ok, ap, refl, sym}
+use Rattle.std.proofs.Common.{◌≡◌, ◌∙◌, [], Ok, ap, refl}
 use Rattle.byte_ranges.specs.Ranges.{has}
 use Rattle.item_meta.specs.declared.meta.Meta.{Meta}
 use Rattle.base_object.proofs.ReadsOn.{no_asks}
 use Rattle.base_object.proofs.WholeRead.{all_here, begins, breaks_off, continues, finishes, later_on, later_same}
 use Rattle.sparse_item.proofs.Moved.{goes_further, goes_nowhere}
 use Rattle.sparse_item.proofs.Nexts.{front_of_all, next_goes_on, none_left}
-use Rattle.sparse_item.proofs.Pulled.{cause_from, lacked}
 use Rattle.sparse_item.proofs.fetch.bring.Goals as goal
 
 pub loop-why-init : goal.loop-why-init

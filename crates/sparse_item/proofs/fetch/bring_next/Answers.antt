@@ -1,6 +1,5 @@
-use Rattle.std.proofs.Common.{◌≡◌, ◌∙◌, ◌<◌, ℕ, List, Option, Ok, Err, None, ap, inl, refl, sym, subst}
+use Rattle.std.proofs.Common.{◌≡◌, ◌∙◌, ◌<◌, ℕ, Option, Ok, ap, inl, refl, sym, subst}
 use Rattle.byte_ranges.specs.Ranges.{has}
-use Rattle.byte_ranges.specs.declared.Span.{Span}
 use Rattle.downloaders.specs.Crew.{Team}
 use Rattle.downloaders.specs.Rules.{AllHere}
 use Rattle.base_object.specs.declared.block.Block.{Block}

@@ -1,4 +1,4 @@
-use Rattle.std.proofs.Common.{◌≡◌, ◌∙◌, ◌≤◌, ℕ, List, true, ap, sym, subst, arith}
+use Rattle.std.proofs.Common.{◌≡◌, ◌∙◌, ◌≤◌, List, ap, sym, subst, arith}
 use Rattle.byte_ranges.specs.Ranges.{has}
 use Rattle.byte_ranges.specs.declared.Span.{Span}
 use Rattle.downloaders.specs.declared.Ask.{Ask}

@@ -1,4 +1,4 @@
-use Rattle.std.proofs.Common.{◌∙◌, ap, inl, refl, subst, sym}
+use Rattle.std.proofs.Common.{◌∙◌, ap, inl, subst, sym}
 use Rattle.item_meta.specs.declared.meta.Meta.{Meta}
 use Rattle.base_object.specs.Base.{IsBase}
 use Rattle.sparse_item.proofs.Putting.{run_lacks}

@@ -2,7 +2,7 @@ use Rattle.std.proofs.Common.{ℕ, arith, length-drop, length-take}
 use Rattle.vfs_outside.specs.declared.file_call.FileCall.TheVariants.{Quiet}
 use Rattle.sparse_item.specs.Moves.{idles, stays}
 use Rattle.sparse_item.proofs.Moved.{failed_idles, idles_move, no_step}
-use Rattle.sparse_item.proofs.Shown.{fills_next, fills_past, none_here}
+use Rattle.sparse_item.proofs.Shown.{fills_next}
 use Rattle.sparse_item.proofs.runs.read_run.Goals as goal
 
 pub returns-in_default-clause-moves : goal.returns-in_default-clause-moves

@@ -1,4 +1,4 @@
-use Rattle.std.proofs.Common.{◌≡◌, ◌≤◌, ◌+◌, ◌-◌, Option, length}
+use Rattle.std.proofs.Common.{◌≤◌, ◌-◌, Option}
 use Rattle.item_meta.specs.declared.meta.Meta.{Meta}
 use Rattle.sparse_item.specs.Moves.{GoesOn, Moves}
 use Rattle.sparse_item.specs.Reading.{Fills, SameData}

@@ -1,4 +1,4 @@
-use Rattle.std.proofs.Common.{◌≡◌, ◌≤◌, ◌-◌}
+use Rattle.std.proofs.Common.{◌≤◌, ◌-◌}
 use Rattle.sparse_item.specs.Fetching.{Beside, Puts}
 use Rattle.sparse_item.specs.Moves.{GoesOn}
 use Rattle.sparse_item.proofs.store.put_runs.Given as goal

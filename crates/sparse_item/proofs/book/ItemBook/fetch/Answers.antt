@@ -1,4 +1,4 @@
-use Rattle.std.proofs.Common.{◌≡◌, List, refl, subst}
+use Rattle.std.proofs.Common.{List, refl, subst}
 use Rattle.byte_ranges.specs.Ranges.{has}
 use Rattle.byte_ranges.specs.declared.Span.{Span}
 use Rattle.item_core.specs.History.{base_end_of}

@@ -1,8 +1,5 @@
-use Rattle.std.proofs.Common.{◌≡◌, ◌∙◌, ℕ, List, Some, Result, refl, sym, ap}
-use Rattle.byte_ranges.specs.declared.Span.{Span}
-use Rattle.vfs_names.specs.declared.refusal.Refusal.{Refusal}
+use Rattle.std.proofs.Common.{◌≡◌, ◌∙◌, refl, sym, ap}
 use Rattle.item_core.specs.History.{base_end_of}
-use Rattle.base_object.specs.Base.{Base}
 use Rattle.sparse_item.specs.Item.{Item}
 use Rattle.sparse_item.specs.Views.{here_of}
 use Rattle.sparse_item.proofs.Refusals.{base_end_is, fetches_same}

@@ -1,11 +1,11 @@
-use Rattle.std.proofs.Common.{◌≡◌, ◌∙◌, ◌≤◌, ◌<◌, ℕ, ◌+◌, ◌-◌, min, length, List, Some, Ok, Err, Result, refl, sym, ap, inl, inr, subst, arith}
+use Rattle.std.proofs.Common.{◌≡◌, ◌∙◌, ◌≤◌, ◌<◌, ℕ, ◌+◌, min, length, List, Some, Err, Result, refl, sym, ap, inr, subst, arith}
 use Rattle.std.specs.Prelude.{IfOk, slice_index}
 use Rattle.byte_ranges.specs.Ranges.{has}
 use Rattle.byte_ranges.specs.declared.Span.{Span}
 use Rattle.vfs_names.specs.declared.blob.Blob.{Blob}
 use Rattle.vfs_names.specs.declared.refusal.Refusal.{Refusal}
 use Rattle.vfs_names.specs.declared.refusal.Refusal.TheVariants as refusals
-use Rattle.item_core.specs.History.{base_end_of, size_of}
+use Rattle.item_core.specs.History.{base_end_of}
 use Rattle.downloaders.specs.declared.Ask.{Ask}
 use Rattle.downloaders.specs.Orders.{here_in_the_end}
 use Rattle.base_object.specs.Base.{Base}

@@ -1,4 +1,4 @@
-use Rattle.std.proofs.Common.{false, Ok, Err}
+use Rattle.std.proofs.Common.{Ok, Err}
 use Rattle.vfs_outside.specs.declared.file_call.FileCall.TheVariants as kinds
 use Rattle.sparse_item.proofs.Moved.{slot_goes}
 use Rattle.sparse_item.proofs.slot.SlotFile.read_at.Goals as goal
