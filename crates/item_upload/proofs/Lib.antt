@@ -1,2 +1,6 @@
+pub mod Carrying
+pub mod Contents
+pub mod Entering
+pub mod Filling
 pub mod Standing
-pub mod Whole
+pub mod Stopping

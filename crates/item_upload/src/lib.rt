@@ -4,9 +4,12 @@
 
 mod blocks;
 mod ending;
+mod staging;
+mod whole;
 
 pub use blocks::{Step, block, give_up, start};
 pub use ending::{Finished, finish};
+pub use whole::{Ended, upload};
 
 #[cfg(test)]
 mod tests;

@@ -1,4 +1,5 @@
 mod bench;
+mod whole;
 
 use crate::{Finished, Step};
 use bench::{Bench, OBJECT};

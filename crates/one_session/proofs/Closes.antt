@@ -11,6 +11,8 @@ use Rattle.item_core.specs.History.{is_dirty}
 use Rattle.item_core.specs.declared.entry.FileKind.TheVariants as file
 use Rattle.sparse_item.specs.Item.{Item}
 use Rattle.session_script.specs.declared.call.Call.TheVariants as call
+use Rattle.writeback_queue.specs.declared.entry.QueueEntry.{QueueEntry}
+use Rattle.writeback_queue.specs.declared.entry.QueueTerms.{QueueTerms}
 use Rattle.session_text.specs.declared.reply.Record.{Record}
 use Rattle.session_text.specs.declared.reply.Reply.TheVariants as reply
 use Rattle.one_session.specs.Books.{ClosesBook, TouchesOne}
@@ -75,10 +77,10 @@ module _ {O S F : Type 0} (tells : Type 0) (old : Store O S F) (items : List Ite
 
   module _ (done : Record) (m n : ℕ) (answer : done.reply ≡ reply.Done) (at_tree : done.tree ≡ Some m) (at_file : done.file ≡ Some (record { 0 = k.item }, n))
       (ends : m ≡ length old.tree.entries) (end : n ≡ length (entries_in (histories old.files.items) k.item)) where
-    pub shut_did : (limit : ℕ) → limit ≡ old.files.limit → (holds : Known → Type 0) → Did 1 holds by (call.Close handle) done (state_of old [] [] 0)
-        (record { tree = entries; files = histories items; items = items; limit = limit; table = set old.table.items handle None; records = []; steps = []; room = 0 })
-    shut_did limit same holds = close_done holds by done (state_of old [] [] 0)
-        (record { tree = entries; files = histories items; items = items; limit = limit; table = set old.table.items handle None; records = []; steps = []; room = 0 })
+    pub shut_did : (limit : ℕ) → limit ≡ old.files.limit → (queue : List QueueEntry) (terms : QueueTerms) (holds : Known → Type 0) → Did 1 holds by (call.Close handle) done (state_of old [] [] 0)
+        (record { tree = entries; files = histories items; items = items; queue = queue; terms = terms; limit = limit; table = set old.table.items handle None; records = []; steps = []; room = 0 })
+    shut_did limit same queue terms holds = close_done holds by done (state_of old [] [] 0)
+        (record { tree = entries; files = histories items; items = items; queue = queue; terms = terms; limit = limit; table = set old.table.items handle None; records = []; steps = []; room = 0 })
         handle m n made k dirty own answer at_tree at_file at small (s.sound.inside handle k at) ends end was tree shut_files refl same
 
     pub shut_placed : (before : List Item) → IsPlaced (call.Close handle) done (record { before = before; after = items })

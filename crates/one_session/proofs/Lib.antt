@@ -14,10 +14,13 @@ pub mod Lending
 pub mod Listings
 pub mod Meeting
 pub mod Numbering
+pub mod Owed
 pub mod PathLists
 pub mod Putting
+pub mod Queued
 pub mod ReadsDone
 pub mod Refusing
+pub mod Rest
 pub mod Served
 pub mod Serving
 pub mod Shelves
@@ -25,3 +28,4 @@ pub mod Starts
 pub mod Stepping
 pub mod Tables
 pub mod Trees
+pub mod Waiting

@@ -106,6 +106,7 @@ abbrev pub AnswersClose : Option Handle → Record → Type 0
 AnswersClose opened r =
     ((r.reply ≡ reply.Done) × IsIn opened r × IsSome r.tree)
     ⊎ (IsBare r (reply.Refused why.BadHandle) × (opened ≡ None))
+    ⊎ IsBare r (reply.Refused why.NoMemory)
 
 -- how a call is answered, where this is open at each handle
 abbrev pub Answers : (ℕ → Option Handle) → Call → Record → Type 0

@@ -5,6 +5,7 @@ pub mod Did
 pub mod Logs
 pub mod Looking
 pub mod Matching
+pub mod Queued
 pub mod Served
 pub mod Slots
 pub mod Sound

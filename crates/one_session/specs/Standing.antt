@@ -1,5 +1,5 @@
 -- What is kept for a session beside the records of its calls.
-use Rattle.std.specs.Prelude.{◌≡◌, ◌<◌, ℕ, false, List, [], length, reverse}
+use Rattle.std.specs.Prelude.{◌≡◌, ◌<◌, ℕ, ◌++◌, false, List, [], length, reverse}
 use Rattle.vfs_names.specs.declared.who.By.{By}
 use Rattle.vfs_outside.specs.Outside.{Outside}
 use Rattle.item_core.specs.Content.{Known}
@@ -10,6 +10,7 @@ use Rattle.one_session.specs.declared.store.Store.{Store}
 use Rattle.downloaders.specs.declared.Plan.{Plan}
 use Rattle.one_session.specs.Causes.{HasRemoteCause, ends_gone}
 use Rattle.one_session.specs.Did.{Did}
+use Rattle.one_session.specs.Queued.{queue_step}
 use Rattle.one_session.specs.Slots.{IsSoundItem}
 use Rattle.one_session.specs.Sound.{IsSound}
 use Rattle.one_session.specs.State.{State, Step, item_in}
@@ -22,6 +23,8 @@ state_of s records steps room = record {
   tree = s.tree.entries;
   files = histories s.files.items;
   items = s.files.items;
+  queue = s.files.queue.entries;
+  terms = s.files.queue.terms;
   limit = s.files.limit;
   table = s.table.items;
   records = records;
@@ -52,6 +55,11 @@ Answered holds by call outcome old new = (line : ℕ) → Did 1 holds by call (r
 -- a refusal for the remote has its cause
 abbrev pub IsCaused : {O S F : Type 0} → Call → Outcome → Store O S F → Outside → Outside → Type 0
 IsCaused call outcome s old new = (line : ℕ) → HasRemoteCause call (recorded line outcome) s.tree.entries old new
+
+-- what the call entered in the queue
+abbrev pub Queued : {O S F : Type 0} → By → Call → Outcome → Store O S F → Store O S F → Type 0
+Queued by call outcome old new = (line : ℕ) → new.files.queue.entries
+    ≡ old.files.queue.entries ++ queue_step old.files.queue.terms.write_back by call (recorded line outcome) (step_between old new)
 
 -- and what the call did to the files
 abbrev pub Stepped : {O S F : Type 0} → Plan → ℕ → ℕ → Call → Outcome → Store O S F → Store O S F → Type 0

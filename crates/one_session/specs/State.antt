@@ -4,6 +4,8 @@ use Rattle.item_core.specs.declared.entry.Entry.{Entry}
 use Rattle.sparse_item.specs.Item.{Item, no_base}
 use Rattle.session_text.specs.declared.reply.Record.{Record}
 use Rattle.vfs_outside.specs.declared.tree.TreeEntry.{TreeEntry}
+use Rattle.writeback_queue.specs.declared.entry.QueueEntry.{QueueEntry}
+use Rattle.writeback_queue.specs.declared.entry.QueueTerms.{QueueTerms}
 use Rattle.one_session.specs.declared.handle.Handle.{Handle}
 
 -- a file's history, its oldest entry first, and beside it a path for each entry that names the file anew
@@ -44,13 +46,15 @@ pub record Step : Type 0 where
   pub before : List Item
   pub after : List Item
 
--- The tree's history; the files' histories by number, and all that is kept of each file; the most places that each history
--- may have; what each handle has open; the records, oldest first, beside each the files before its call and after it, and
+-- The tree's history; the files' histories by number, and all that is kept of each file; the history of the queue of files
+-- that wait for an upload, and what it keeps to; the most places that each history may have; what each handle has open; the records, oldest first, beside each the files before its call and after it, and
 -- for how many more records there is room.
 pub record State : Type 0 where
   pub tree : List TreeEntry
   pub files : List History
   pub items : List Item
+  pub queue : List QueueEntry
+  pub terms : QueueTerms
   pub limit : ℕ
   pub table : List (Option Handle)
   pub records : List Record

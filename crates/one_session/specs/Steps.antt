@@ -6,6 +6,7 @@ use Rattle.vfs_names.specs.Payload.{payload_len}
 use Rattle.vfs_names.specs.declared.payload.Payload.{Payload}
 use Rattle.vfs_names.specs.declared.refusal.Refusal.{Refusal}
 use Rattle.vfs_names.specs.declared.refusal.Refusal.TheVariants as why
+use Rattle.vfs_names.specs.declared.who.By.{By}
 use Rattle.vfs_names.specs.declared.who.ItemId.{ItemId}
 use Rattle.vfs_outside.specs.Causes.{Rose}
 use Rattle.item_core.specs.declared.entry.Entry.{Entry}
@@ -24,7 +25,9 @@ use Rattle.session_script.specs.declared.call.Call.TheVariants as call
 use Rattle.session_text.specs.declared.reply.Record.{Record}
 use Rattle.session_text.specs.declared.reply.Reply.{Reply}
 use Rattle.session_text.specs.declared.reply.Reply.TheVariants as reply
+use Rattle.writeback_queue.specs.declared.entry.QueueEntry.{QueueEntry}
 use Rattle.one_session.specs.Calls.{IsOfDevice}
+use Rattle.one_session.specs.Queued.{queue_step}
 use Rattle.one_session.specs.Served.{Served, open_at}
 use Rattle.one_session.specs.State.{State, Step, file_at, item_in}
 use Rattle.one_session.specs.declared.handle.Handle.{Handle}
@@ -88,6 +91,17 @@ pub record TakesStep (plan : Plan) (disk disk' : ℕ) (call : Call) (done : Reco
   pub added : t.steps ≡ s.steps ++ record { before = s.items; after = t.items } ∷ []
   pub placed : IsPlaced call done (record { before = s.items; after = t.items })
   pub does : Touches plan disk disk' call done (record { before = s.items; after = t.items })
+
+-- and it entered in the queue what it was to enter
+abbrev pub QueuesStep : By → Call → Record → State → State → Type 0
+QueuesStep by call done s t = (t.terms ≡ s.terms)
+    × (t.queue ≡ s.queue ++ queue_step s.terms.write_back by call done (record { before = s.items; after = t.items }))
+
+-- what some calls, the newest first, entered in the queue
+abbrev pub queue_after : ℕ → List Served → List Step → List QueueEntry
+queue_after write_back [] steps = []
+queue_after write_back (d ∷ older) [] = []
+queue_after write_back (d ∷ older) (step ∷ earlier) = queue_after write_back older earlier ++ queue_step write_back d.by d.line.call d.done step
 
 -- What some calls, the newest first, did to the files: each found those that the one before it left, the first none, and the
 -- newest left these.

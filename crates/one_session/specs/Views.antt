@@ -6,6 +6,7 @@ use Rattle.vfs_names.specs.declared.refusal.Refusal.TheVariants as why
 use Rattle.vfs_names.specs.declared.who.ItemId.{ItemId}
 use Rattle.item_core.specs.declared.entry.Entry.{Entry}
 use Rattle.sparse_item.specs.Item.{Item}
+use Rattle.writeback_queue.specs.Queue.{Queue}
 use Rattle.vfs_outside.specs.declared.tree.TreeEntry.{TreeEntry}
 use Rattle.vfs_outside.specs.declared.tree.TreeKind.{TreeKind}
 use Rattle.vfs_outside.specs.declared.tree.TreeKind.TheVariants.{Created, Opened, Closed}
@@ -31,10 +32,12 @@ pub record Numbered : Type 0 where
   pub paths : List (List ℕ)
   pub spare : ℕ
 
--- the files by number, the most places that each may have, and for how many more files there is room
+-- the files by number, the most places that each may have, the queue of those that wait for an upload, and for how many
+-- more files there is room
 pub record Shelf : Type 0 where
   pub items : List Item
   pub limit : ℕ
+  pub queue : Queue
   pub spare : ℕ
 
 -- a file's history in the order in which it is stored

@@ -1,6 +1,6 @@
 ghost use Rattle.std.specs.Prelude.{◌≡◌, ◌≢◌, ◌⊎◌, ◌<◌, ◌≤◌, ◌+◌, ◌-◌, ◌^◌, ◌↔◌, ◌++◌, ◌||◌, ℕ, [], ◌∷◌, true, false, nat_lt, length, map, reverse, OnOk, IfOk, IfErr, OnErr, vec_len, vec_capacity};
 ghost use Rattle.downloaders.specs.Rules.{HasChunk};
-ghost use Rattle.item_core.specs.History.{held_by, is_dirty, is_kept, opens_by, opens_of};
+ghost use Rattle.item_core.specs.History.{held_by, is_dirty, is_kept, is_owed, opens_by, opens_of};
 ghost use Rattle.item_core.specs.Log.{free};
 ghost use Rattle.one_session.specs.Books.{ClosesBook, OpensBook, ReadsBook, SizesBook, TouchesOne, WritesBook};
 ghost use Rattle.std.specs.List.{AllByRecursion};
@@ -8,6 +8,7 @@ ghost use Rattle.item_core.specs.Legal.{IsLegal};
 ghost use Rattle.vfs_outside.specs.Disk.{SetsOut};
 ghost use Rattle.one_session.specs.Calls.{free_in};
 ghost use Rattle.one_session.specs.Logs.{history_of};
+ghost use Rattle.one_session.specs.Queued.{IsQueued, owed_in, queue_news, queue_of};
 ghost use Rattle.one_session.specs.Slots.{IsSoundItem, ItemStands, Lends};
 ghost use Rattle.one_session.specs.Start.{MayStart, front_of, given_by, named_by};
 ghost use Rattle.one_session.specs.State.{History, entries_in};
@@ -15,27 +16,34 @@ ghost use Rattle.one_session.specs.Views.{given_all, histories, item_in, stored}
 ghost use Rattle.sparse_item.specs.Sound.{is_begun};
 
 use crate::log::FileLog;
+use crate::queue::{begins, rests, rows_of, settle_close, withdraw};
 use crate::start::{Start, begin};
 use base_object::BaseState;
 use downloaders::Plan;
 use sparse_item::{ItemBook, Parts};
 use std::alloc::Global;
 use std::marker::Model;
-use vfs_names::{Access, At, Blob, By, Fingerprint, NoMemory, Payload, Refusal, VPath};
+use vfs_names::{Access, At, Blob, By, Fingerprint, NoMemory, Payload, QueueRow, Refusal, VPath};
 use vfs_outside::{CacheDisk, CacheFile, Object};
+use writeback_queue::{QueueBook, QueueEntry, QueueTerms};
 
-/// The files of the session, by number. Contracts see what each tells.
+/// The places of the queue that a close may need.
+const PLACES: u32 = 2;
+
+/// The files of the session, by number, and the queue of those that wait for an upload. Contracts see what each tells.
 #[derive(Drop)]
 pub(crate) struct Files<O: Object, F: CacheFile> {
     pub(crate) files: Vec<ItemBook<O, F>>,
     pub(crate) logs: Vec<FileLog>,
+    pub(crate) queue: QueueBook,
     limit: u32,
 }
 
 impl<O: Object, F: CacheFile> Model for Files<O, F> {
-    ghost use Rattle.std.specs.Prelude.{◌≡◌, ◌≤◌, ◌-◌, [], min, vec_len, vec_capacity};
+    ghost use Rattle.std.specs.Prelude.{◌≡◌, ◌≤◌, ◌-◌, ◌^◌, [], min, vec_len, vec_capacity};
     ghost use Rattle.std.specs.List.{AllByRecursion};
     ghost use Rattle.sparse_item.specs.Item.{Item};
+    ghost use Rattle.one_session.specs.Queued.{IsQueued, owed_item};
     ghost use Rattle.one_session.specs.Views.{Shelf};
 
     ghost Value = { Shelf };
@@ -43,22 +51,33 @@ impl<O: Object, F: CacheFile> Model for Files<O, F> {
     ghost view = { λ f. record {
       items = f.files.items;
       limit = f.limit;
+      queue = f.queue;
       spare = min (vec_capacity f.files) (vec_capacity f.logs) - vec_len f.files;
     } };
 
     ghost invariant = { λ f. (f.logs.items ≡ []) × (vec_len f.files ≤ vec_capacity f.logs)
-        × AllByRecursion (λ (item : Item). item.log.limit ≡ f.limit) f.files.items };
+        × AllByRecursion (λ (item : Item). item.log.limit ≡ f.limit) f.files.items
+        × IsQueued f.queue.terms (owed_item f.files.items) f.queue.entries
+        × (f.queue.terms.write_back ≤ 2 ^ 62) };
 }
 
 impl<O: Object, F: CacheFile> Files<O, F> {
     /// No files. Each is to have at most `limit` places; takes no memory.
-    pub(crate) fn new(alloc: Global, limit: u32) -> Files<O, F>
+    pub(crate) fn new(alloc: Global, limit: u32, terms: QueueTerms) -> Files<O, F>
+        requires small { terms.write_back ≤ 2 ^ 62 }
         ensures items { result.items ≡ [] }
         ensures limit { result.limit ≡ limit }
+        ensures terms { result.queue.terms ≡ terms }
+        ensures queue { result.queue.entries ≡ [] }
     {
+        let QueueTerms {
+            write_back,
+            transfers,
+        } = terms;
         Files {
             files: Vec::new(alloc),
             logs: Vec::new(alloc),
+            queue: QueueBook::new(alloc, write_back, transfers),
             limit,
         }
     }
@@ -82,6 +101,7 @@ impl<O: Object, F: CacheFile> Files<O, F> {
         ensures ok { OnOk result (0 < self.new.spare) }
         ensures items { self.new.items ≡ self.old.items }
         ensures limit { self.new.limit ≡ self.old.limit }
+        ensures queue { self.new.queue ≡ self.old.queue }
     {
         let Ok(()) = self.files.reserve(1) else {
             return Err(NoMemory);
@@ -93,12 +113,14 @@ impl<O: Object, F: CacheFile> Files<O, F> {
         }
     }
 
-    /// Puts a file at the end, for which room was made.
+    /// Puts a file at the end that doesn't wait for an upload, for which room was made.
     pub(crate) fn add(&mut self, file: ItemBook<O, F>)
         requires spare { 0 < self.old.spare }
         requires limit { file.log.limit ≡ self.old.limit }
+        requires owed { is_owed file.log.past ≡ false }
         ensures items { self.new.items ≡ self.old.items ++ file ∷ [] }
         ensures limit { self.new.limit ≡ self.old.limit }
+        ensures queue { self.new.queue ≡ self.old.queue }
     {
         self.files.push(file).unwrap();
     }
@@ -117,6 +139,7 @@ impl<O: Object, F: CacheFile> Files<O, F> {
         ensures places { (item_in self.new.items item).log.limit
             ≡ (item_in self.old.items item).log.limit }
         ensures limit { self.new.limit ≡ self.old.limit }
+        ensures queue { self.new.queue ≡ self.old.queue }
         ensures full { (result ≡ Err Refusal.HistoryFull)
             → free_in self.old.limit (entries_in (histories self.old.items) item) < n }
         ensures causes { IfErr result (λ why. (why ≡ Refusal.HistoryFull)
@@ -184,22 +207,36 @@ impl<O: Object, F: CacheFile> Files<O, F> {
             (item_in self.new.items item) result }
         ensures one { TouchesOne item self.old.items self.new.items }
         ensures limit { self.new.limit ≡ self.old.limit }
+        ensures queue { self.new.queue ≡ self.old.queue }
     {
         begin(&mut self.files[item as usize], by, path, start, access)
     }
 
-    /// Closes a handle of a file; whether there still is content that no upload saved. Takes no memory.
-    pub(crate) fn close_handle(&mut self, item: u32, by: By) -> bool
+    /// Closes a handle of a file; whether there still is content that no upload saved. Takes memory for the queue before
+    /// anything is done, and where that is wanting the handle stays open.
+    pub(crate) fn close_handle(&mut self, item: u32, by: By) -> Result<bool, NoMemory>
         requires inside { item < length self.old.items }
         requires tree { by.tree ≡ true }
+        requires now { by.now ≤ 2 ^ 62 }
         requires open { 0 < opens_by by.pass (item_in self.old.items item).log.past }
-        ensures dirty { result ≡ is_dirty (item_in self.old.items item).log.past }
-        ensures did { ClosesBook F.tells by (item_in self.old.items item)
-            (item_in self.new.items item) }
-        ensures one { TouchesOne item self.old.items self.new.items }
+        ensures dirty { IfOk result (λ dirty. dirty ≡ is_dirty (item_in self.old.items item).log.past) }
+        ensures did { OnOk result (ClosesBook F.tells by (item_in self.old.items item)
+            (item_in self.new.items item)) }
+        ensures one { OnOk result (TouchesOne item self.old.items self.new.items) }
         ensures limit { self.new.limit ≡ self.old.limit }
+        ensures queue { OnOk result (self.new.queue.entries ≡ self.old.queue.entries
+            ++ queue_news self.old.queue.terms.write_back by item
+            (item_in self.old.items item).log.past (item_in self.new.items item).log.past) }
+        ensures terms { self.new.queue.terms ≡ self.old.queue.terms }
+        ensures still { OnErr result (self.new ≡ self.old) }
     {
-        self.files[item as usize].close_handle(by)
+        let Ok(()) = self.queue.reserve(PLACES) else {
+            return Err(NoMemory);
+        };
+        let opens = self.files[item as usize].opens();
+        let dirty = self.files[item as usize].close_handle(by);
+        settle_close(&mut self.queue, by, item, rests(opens, dirty));
+        Ok(dirty)
     }
 
     /// The bytes of a file from `pos` to the lesser of `pos + len` and its size.
@@ -218,6 +255,7 @@ impl<O: Object, F: CacheFile> Files<O, F> {
             (item_in self.new.items item) result }
         ensures one { TouchesOne item self.old.items self.new.items }
         ensures limit { self.new.limit ≡ self.old.limit }
+        ensures queue { self.new.queue ≡ self.old.queue }
     {
         self.files[item as usize].read(plan, by, pos, len)
     }
@@ -236,8 +274,15 @@ impl<O: Object, F: CacheFile> Files<O, F> {
             (item_in self.new.items item) result }
         ensures one { TouchesOne item self.old.items self.new.items }
         ensures limit { self.new.limit ≡ self.old.limit }
+        ensures queue { OnOk result (self.new.queue.entries ≡ self.old.queue.entries
+            ++ queue_news self.old.queue.terms.write_back by item
+            (item_in self.old.items item).log.past (item_in self.new.items item).log.past) }
+        ensures terms { self.new.queue.terms ≡ self.old.queue.terms }
+        ensures still { OnErr result (self.new.queue.entries ≡ self.old.queue.entries) }
     {
-        self.files[item as usize].write(by, At::Pos(pos), payload)
+        let wrote = self.files[item as usize].write(by, At::Pos(pos), payload);
+        withdraw(&mut self.queue, by, item, begins(&wrote));
+        wrote
     }
 
     /// Sets the size of a file.
@@ -249,18 +294,35 @@ impl<O: Object, F: CacheFile> Files<O, F> {
             (item_in self.new.items item) result }
         ensures one { TouchesOne item self.old.items self.new.items }
         ensures limit { self.new.limit ≡ self.old.limit }
+        ensures queue { OnOk result (self.new.queue.entries ≡ self.old.queue.entries
+            ++ queue_news self.old.queue.terms.write_back by item
+            (item_in self.old.items item).log.past (item_in self.new.items item).log.past) }
+        ensures terms { self.new.queue.terms ≡ self.old.queue.terms }
+        ensures still { OnErr result (self.new.queue.entries ≡ self.old.queue.entries) }
     {
-        self.files[item as usize].set_size(by, size)
+        let sized = self.files[item as usize].set_size(by, size);
+        withdraw(&mut self.queue, by, item, sized.is_ok());
+        sized
     }
 }
 
 impl<O: Object, F: CacheFile> Files<O, F> {
-    /// The histories, handed over, and each file given back to its slot; takes no memory.
-    pub(crate) fn into_logs<D: CacheDisk<File = F>>(self, disk: &mut D) -> Vec<FileLog>
+    /// The rows of the files that wait for an upload, by their numbers. Looks each up in the queue.
+    pub(crate) fn queue_rows(&self, alloc: Global) -> Result<Vec<QueueRow>, NoMemory>
+        ensures { IfOk result (λ rows. rows.items ≡ queue_of self.now.queue.terms.write_back
+            self.now.queue.entries (histories self.now.items)) }
+    {
+        rows_of(alloc, &self.queue, &self.files)
+    }
+
+    /// The histories of the files and of the queue, handed over, and each file given back to its slot; takes no memory.
+    pub(crate) fn into_logs<D: CacheDisk<File = F>>(self, disk: &mut D) -> Logs
         requires lends { Lends D.tells (length self.items) (D.disk disk.old) }
         requires items { (n : ℕ) → n < length self.items
             → IsSoundItem F.tells self.limit n (item_in self.items n) }
-        ensures files { map history_of result.items ≡ histories self.items }
+        ensures files { map history_of result.files.items ≡ histories self.items }
+        ensures queue { result.queue.items ≡ self.queue.entries }
+        ensures queued { IsQueued self.queue.terms (owed_in (histories self.items)) self.queue.entries }
         ensures legal { AllByRecursion (λ (file : History). IsLegal
             (reverse file.entries)) (histories self.items) }
         ensures back { (slot : ℕ) → (D.disk disk.new).out slot ≡ false }
@@ -268,9 +330,24 @@ impl<O: Object, F: CacheFile> Files<O, F> {
         ensures images { D.tells → (n : ℕ) → n < length self.items → ItemStands O.tells
             (item_in self.items n) ((D.disk disk.new).shelf n).now }
     {
-        let Files { files, logs, .. } = self;
-        logs_of(files, logs, disk)
+        let Files {
+            files,
+            logs,
+            queue,
+            ..
+        } = self;
+        Logs {
+            files: logs_of(files, logs, disk),
+            queue: queue.into_entries(),
+        }
     }
+}
+
+/// The histories of the files, and that of the queue.
+#[derive(Drop)]
+pub(crate) struct Logs {
+    pub(crate) files: Vec<FileLog>,
+    pub(crate) queue: Vec<QueueEntry>,
 }
 
 /// The histories of the files, in a list for which room was made; each file is given back to its slot.

@@ -12,6 +12,7 @@ mod opens;
 mod outcome;
 mod paths;
 mod plan;
+mod queue;
 mod session;
 mod slots;
 mod start;

@@ -39,6 +39,7 @@ pub(crate) fn make<O: Object, F: CacheFile>(
 ) -> Result<String, NoMemory>
     ensures paths { paths.new.paths ≡ paths.old.paths }
     ensures items { files.new.items ≡ files.old.items }
+    ensures queue { files.new.queue ≡ files.old.queue }
     ensures limit { files.new.limit ≡ files.old.limit }
     ensures room { OnOk result (0 < paths.new.spare) }
     ensures spare { OnOk result (0 < files.new.spare) }
@@ -169,6 +170,7 @@ impl<O: Object, F: CacheFile> Store<O, F> {
         ensures table { OnOk result (self.new.table.items ≡ set self.old.table.items handle
             (Some (record { item = item; access = access }))) }
         ensures limit { self.new.files.limit ≡ self.old.files.limit }
+        ensures queue { self.new.files.queue ≡ self.old.files.queue }
         ensures reply { IfOk result (λ outcome. outcome.reply ≡ reply.Done) }
         ensures in_tree { IfOk result (λ outcome. outcome.tree
             ≡ Some (length self.old.tree.entries)) }
@@ -241,6 +243,7 @@ impl<O: Object, F: CacheFile> Store<O, F> {
         ensures table { OnOk result (self.new.table.items ≡ set self.old.table.items handle
             (Some (record { item = length self.old.files.items; access = access }))) }
         ensures limit { self.new.files.limit ≡ self.old.files.limit }
+        ensures queue { self.new.files.queue ≡ self.old.files.queue }
         ensures reply { IfOk result (λ outcome. outcome.reply ≡ reply.Done) }
         ensures in_tree { IfOk result (λ outcome. outcome.tree
             ≡ Some (length self.old.tree.entries)) }

@@ -58,6 +58,7 @@ impl<O: Object, F: CacheFile> Store<O, F> {
             (R.outside remote.old) (R.outside remote.new) }
         ensures stepped { (plan : Rules) → Stepped plan 0 0
             (call.Open handle path.now how) result self.old self.new }
+        ensures queue { self.new.files.queue ≡ self.old.files.queue }
     {
         if let Err(why) = self.files.reserve(item, FILE_PLACES) {
             return Outcome::bare(why);
@@ -132,6 +133,7 @@ impl<O: Object, F: CacheFile> Store<O, F> {
             (R.outside remote.old) (R.outside remote.new) }
         ensures stepped { (plan : Rules) → Stepped plan (D.disk disk.old).faults (D.disk disk.new).faults
             (call.Open handle path.now how) result self.old self.new }
+        ensures queue { self.new.files.queue ≡ self.old.files.queue }
     {
         let Ok(text) = make(&mut self.paths, &mut self.files, alloc, path) else {
             return Outcome::bare(Refusal::NoMemory);
@@ -204,6 +206,7 @@ impl<O: Object, F: CacheFile> Store<O, F> {
             (R.outside remote.old) (R.outside remote.new) }
         ensures stepped { (plan : Rules) → Stepped plan (D.disk disk.old).faults (D.disk disk.new).faults
             (call.Open handle path.now how) result self.old self.new }
+        ensures queue { self.new.files.queue ≡ self.old.files.queue }
     {
         if self.file_of(handle).is_some() {
             return Outcome::bare(Refusal::BadHandle);

@@ -1,16 +1,18 @@
-ghost use Rattle.std.specs.Prelude.{◌≡◌, ◌<◌, ◌≤◌, ◌+◌, ℕ, List, [], map, length, false, OnOk, OnErr, IfOk};
+ghost use Rattle.std.specs.Prelude.{◌≡◌, ◌<◌, ◌≤◌, ◌+◌, ◌^◌, ℕ, List, [], map, length, false, OnOk, OnErr, IfOk};
 ghost use Rattle.vfs_names.specs.declared.fingerprint.Fingerprint.{Fingerprint};
 ghost use Rattle.vfs_names.specs.declared.who.Actor.TheVariants.{Session};
 ghost use Rattle.downloaders.specs.Rules.{HasChunk};
 ghost use Rattle.session_text.specs.declared.reply.Record.{Record};
 ghost use Rattle.one_session.specs.Causes.{AreGiven, HasRemoteCause};
 ghost use Rattle.one_session.specs.Logs.{history_of};
+ghost use Rattle.one_session.specs.Queued.{IsQueued, owed_in, queue_of};
 ghost use Rattle.one_session.specs.Served.{Fits, IsServable, Knows, Serves};
 ghost use Rattle.one_session.specs.Slots.{ImagesStand, Lends};
-ghost use Rattle.one_session.specs.Steps.{TakesStep};
+ghost use Rattle.one_session.specs.Steps.{QueuesStep, TakesStep};
 ghost use Rattle.one_session.specs.Views.{given_all};
 ghost use Rattle.one_session.specs.Whole.{IsUpTo, IsWhole};
 
+use crate::files::Logs;
 use crate::outcome::Outcome;
 use crate::store::Store;
 use crate::{EpochLog, Step};
@@ -20,8 +22,9 @@ use session_text::Record;
 use std::alloc::Global;
 use std::marker::Model;
 use std::snapshot::Snapshot;
-use vfs_names::{By, NoMemory};
+use vfs_names::{By, NoMemory, QueueRow};
 use vfs_outside::{CacheDisk, CacheFile, Object, Remote};
+use writeback_queue::QueueTerms;
 
 /// One session's calls. Contracts see its histories, its handles, its files and its records.
 #[derive(Drop)]
@@ -45,16 +48,20 @@ impl<O: Object, F: CacheFile> Model for OneSession<O, F> {
 }
 
 impl<O: Object, F: CacheFile> OneSession<O, F> {
-    /// No call was served yet. Each history is to have at most `limit` places.
-    pub fn new(alloc: Global, limit: u32) -> Result<OneSession<O, F>, NoMemory>
+    /// No call was served yet. Each history is to have at most `limit` places; the queue of files that wait for an upload
+    /// is to keep to `terms`.
+    pub fn new(alloc: Global, limit: u32, terms: QueueTerms) -> Result<OneSession<O, F>, NoMemory>
+        requires small { terms.write_back ≤ 2 ^ 62 }
         ensures fits { (handed : List (Fingerprint × List ℕ))
             → IfOk result (λ s. Fits 1 (Knows F.tells O.tells handed) [] s) }
         ensures limit { IfOk result (λ s. s.limit ≡ limit) }
         ensures none { IfOk result (λ s. s.files ≡ []) }
         ensures untouched { IfOk result (λ s. s.items ≡ []) }
         ensures steps { IfOk result (λ s. s.steps ≡ []) }
+        ensures terms { IfOk result (λ s. s.terms ≡ terms) }
+        ensures queue { IfOk result (λ s. s.queue ≡ []) }
     {
-        match Store::new(alloc, limit) {
+        match Store::new(alloc, limit, terms) {
             Ok(store) => Ok(OneSession {
                 store,
                 records: Vec::new(alloc),
@@ -98,6 +105,7 @@ impl<O: Object, F: CacheFile> OneSession<O, F> {
         requires session { line.now.session ≡ 1 }
         requires actor { by.who.actor ≡ Session 1 }
         requires pass { by.pass ≡ 0 }
+        requires now { by.now ≤ 2 ^ 62 }
         requires later { IsUpTo by self.old.files }
         requires lends { Lends D.tells (length self.old.files) (D.disk disk.old) }
         requires given { AreGiven O.tells (R.outside remote.old).handed (given_all self.old.items) }
@@ -107,7 +115,8 @@ impl<O: Object, F: CacheFile> OneSession<O, F> {
             × HasRemoteCause line.now.call done self.new.tree (R.outside remote.old)
             (R.outside remote.new)
             × TakesStep plan.now (D.disk disk.old).faults (D.disk disk.new).faults
-            line.now.call done self.old self.new }
+            line.now.call done self.old self.new
+            × QueuesStep by line.now.call done self.old self.new }
         ensures lends { Lends D.tells (length self.new.files) (D.disk disk.new) }
         ensures faults { (D.disk disk.old).faults ≤ (D.disk disk.new).faults }
         ensures given { AreGiven O.tells (R.outside remote.new).handed (given_all self.new.items) }
@@ -136,6 +145,14 @@ impl<O: Object, F: CacheFile> OneSession<O, F> {
         self.records.as_slice()
     }
 
+    /// The rows of the files that wait for an upload, by their numbers. Each is looked up in the queue.
+    pub fn queue_rows(&self, alloc: Global) -> Result<Vec<QueueRow>, NoMemory>
+        ensures { IfOk result (λ rows. rows.items
+            ≡ queue_of self.now.terms.write_back self.now.queue self.now.files) }
+    {
+        self.store.files.queue_rows(alloc)
+    }
+
     /// The histories and the records, handed over, and each file given back to its slot; takes no memory. Where the disk
     /// tells, the image of each slot then stands, after any number of its calls, for the part of its file's history that was
     /// made by then.
@@ -143,6 +160,8 @@ impl<O: Object, F: CacheFile> OneSession<O, F> {
         requires lends { Lends D.tells (length self.files) (D.disk disk.old) }
         ensures tree { result.tree.items ≡ self.tree }
         ensures files { map history_of result.files.items ≡ self.files }
+        ensures queue { result.queue.items ≡ self.queue }
+        ensures queued { IsQueued self.terms (owed_in self.files) self.queue }
         ensures records { result.records.items ≡ self.records }
         ensures steps { result.steps.items ≡ self.steps }
         ensures whole { IsWhole 1 self.tree self.files }
@@ -158,9 +177,11 @@ impl<O: Object, F: CacheFile> OneSession<O, F> {
             steps,
         } = self;
         let Store { tree, files, .. } = store;
+        let Logs { files, queue } = files.into_logs(disk);
         EpochLog {
             tree: tree.into_entries(),
-            files: files.into_logs(disk),
+            files,
+            queue,
             records,
             steps,
         }

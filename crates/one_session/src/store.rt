@@ -1,4 +1,4 @@
-ghost use Rattle.std.specs.Prelude.{◌≡◌, ◌≢◌, ◌<◌, ◌≤◌, ℕ, List, [], None, length, IfOk};
+ghost use Rattle.std.specs.Prelude.{◌≡◌, ◌≢◌, ◌<◌, ◌≤◌, ◌^◌, ℕ, List, [], None, length, IfOk};
 ghost use Rattle.vfs_names.specs.declared.fingerprint.Fingerprint.{Fingerprint};
 ghost use Rattle.vfs_names.specs.declared.who.Actor.TheVariants.{Session};
 ghost use Rattle.downloaders.specs.Rules.{HasChunk};
@@ -7,7 +7,7 @@ ghost use Rattle.session_script.specs.declared.call.Call.TheVariants as call;
 ghost use Rattle.one_session.specs.Causes.{AreGiven};
 ghost use Rattle.one_session.specs.Served.{IsServable, Knows};
 ghost use Rattle.one_session.specs.Slots.{Lends};
-ghost use Rattle.one_session.specs.Standing.{Answered, IsCaused, IsSoundStore, Stepped};
+ghost use Rattle.one_session.specs.Standing.{Answered, IsCaused, IsSoundStore, Queued, Stepped};
 ghost use Rattle.one_session.specs.State.{file_at};
 ghost use Rattle.one_session.specs.Views.{given_all, histories};
 ghost use Rattle.one_session.specs.Whole.{IsUpTo};
@@ -24,6 +24,7 @@ use session_text::Reply;
 use std::alloc::Global;
 use vfs_names::{Access, By, ItemId, NoMemory, Payload, Refusal};
 use vfs_outside::{CacheDisk, CacheFile, Object, Remote, TreeEntry, TreeKind};
+use writeback_queue::QueueTerms;
 
 /// The longest write, in bytes.
 const LENGTH_LIMIT: u64 = 131_072;
@@ -43,11 +44,14 @@ pub(crate) struct Store<O: Object, F: CacheFile> {
 
 impl<O: Object, F: CacheFile> Store<O, F> {
     /// Nothing was called yet. Each history is to have at most `limit` places.
-    pub(crate) fn new(alloc: Global, limit: u32) -> Result<Store<O, F>, NoMemory>
+    pub(crate) fn new(alloc: Global, limit: u32, terms: QueueTerms) -> Result<Store<O, F>, NoMemory>
+        requires small { terms.write_back ≤ 2 ^ 62 }
         ensures sound { IfOk result (λ s. IsSoundStore F.tells s) }
         ensures tree { IfOk result (λ s. s.tree.entries ≡ []) }
         ensures files { IfOk result (λ s. s.files.items ≡ []) }
         ensures limit { IfOk result (λ s. s.files.limit ≡ limit) }
+        ensures terms { IfOk result (λ s. s.files.queue.terms ≡ terms) }
+        ensures queue { IfOk result (λ s. s.files.queue.entries ≡ []) }
         ensures handles { IfOk result (λ s. (handle : ℕ) → file_at s.table.items handle ≡ None) }
     {
         let Ok(table) = vec![in alloc; None; 256] else {
@@ -56,7 +60,7 @@ impl<O: Object, F: CacheFile> Store<O, F> {
         Ok(Store {
             tree: Tree::new(alloc, limit),
             paths: Paths::new(alloc),
-            files: Files::new(alloc, limit),
+            files: Files::new(alloc, limit, terms),
             table,
         })
     }
@@ -84,6 +88,7 @@ impl<O: Object, F: CacheFile> Store<O, F> {
             → Answered (Knows F.tells O.tells handed) by (call.Read handle pos len) result self.old self.new }
         ensures given { given_all self.new.files.items ≡ given_all self.old.files.items }
         ensures stepped { Stepped plan.now 0 0 (call.Read handle pos len) result self.old self.new }
+        ensures queue { self.new.files.queue ≡ self.old.files.queue }
     {
         let Some(opened) = self.file_of(handle) else {
             return Outcome::bare(Refusal::BadHandle);
@@ -118,6 +123,8 @@ impl<O: Object, F: CacheFile> Store<O, F> {
             → Answered (Knows F.tells O.tells handed) by (call.Write handle pos payload.now) result self.old self.new }
         ensures given { given_all self.new.files.items ≡ given_all self.old.files.items }
         ensures stepped { (plan : Rules) → Stepped plan 0 0 (call.Write handle pos payload.now) result self.old self.new }
+        ensures queued { Queued by (call.Write handle pos payload.now) result self.old self.new }
+        ensures terms { self.new.files.queue.terms ≡ self.old.files.queue.terms }
     {
         let Some(opened) = self.file_of(handle) else {
             return Outcome::bare(Refusal::BadHandle);
@@ -155,6 +162,8 @@ impl<O: Object, F: CacheFile> Store<O, F> {
             → Answered (Knows F.tells O.tells handed) by (call.Size handle size) result self.old self.new }
         ensures given { given_all self.new.files.items ≡ given_all self.old.files.items }
         ensures stepped { (plan : Rules) → Stepped plan 0 0 (call.Size handle size) result self.old self.new }
+        ensures queued { Queued by (call.Size handle size) result self.old self.new }
+        ensures terms { self.new.files.queue.terms ≡ self.old.files.queue.terms }
     {
         let Some(opened) = self.file_of(handle) else {
             return Outcome::bare(Refusal::BadHandle);
@@ -171,11 +180,12 @@ impl<O: Object, F: CacheFile> Store<O, F> {
         }
     }
 
-    /// Closes a handle; takes no memory.
+    /// Closes a handle. Takes memory for the queue before anything is done, and where that is wanting the handle stays open.
     pub(crate) fn close(&mut self, by: By, handle: u8) -> Outcome
         requires sound { IsSoundStore F.tells self.old }
         requires actor { by.who.actor ≡ Session 1 }
         requires pass { by.pass ≡ 0 }
+        requires now { by.now ≤ 2 ^ 62 }
         requires later { IsUpTo by (histories self.old.files.items) }
         ensures sound { IsSoundStore F.tells self.new }
         ensures count { length self.new.files.items ≡ length self.old.files.items }
@@ -185,6 +195,8 @@ impl<O: Object, F: CacheFile> Store<O, F> {
             → Answered (Knows F.tells O.tells handed) by (call.Close handle) result self.old self.new }
         ensures given { given_all self.new.files.items ≡ given_all self.old.files.items }
         ensures stepped { (plan : Rules) → Stepped plan 0 0 (call.Close handle) result self.old self.new }
+        ensures queued { Queued by (call.Close handle) result self.old self.new }
+        ensures terms { self.new.files.queue.terms ≡ self.old.files.queue.terms }
     {
         let Some(opened) = self.file_of(handle) else {
             return Outcome::bare(Refusal::BadHandle);
@@ -192,9 +204,10 @@ impl<O: Object, F: CacheFile> Store<O, F> {
         let item = ItemId(opened.item);
         let in_tree = self.tree.len();
         let in_file = self.files.end(opened.item);
-        let dirty = self
-            .files
-            .close_handle(opened.item, By { tree: true, ..by });
+        let under = By { tree: true, ..by };
+        let Ok(dirty) = self.files.close_handle(opened.item, under) else {
+            return Outcome::bare(Refusal::NoMemory);
+        };
         let kind = TreeKind::Closed { item, dirty };
         self.tree.push(TreeEntry { by, kind });
         self.table[handle as usize] = None;
@@ -221,6 +234,7 @@ impl<O: Object, F: CacheFile> Store<O, F> {
         requires servable { IsServable call.now }
         requires actor { by.who.actor ≡ Session 1 }
         requires pass { by.pass ≡ 0 }
+        requires now { by.now ≤ 2 ^ 62 }
         requires later { IsUpTo by (histories self.old.files.items) }
         ensures sound { IsSoundStore F.tells self.new }
         ensures lends { Lends D.tells (length self.new.files.items) (D.disk disk.new) }
@@ -233,6 +247,8 @@ impl<O: Object, F: CacheFile> Store<O, F> {
         ensures cause { IsCaused call.now result self.new (R.outside remote.old) (R.outside remote.new) }
         ensures stepped { Stepped plan.now (D.disk disk.old).faults (D.disk disk.new).faults
             call.now result self.old self.new }
+        ensures queued { Queued by call.now result self.old self.new }
+        ensures terms { self.new.files.queue.terms ≡ self.old.files.queue.terms }
     {
         match call {
             Call::Open { h, path, how } => self.open(alloc, remote, disk, by, *h, path, *how),

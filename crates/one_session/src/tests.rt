@@ -12,6 +12,7 @@ use session_text::{print_file, print_reply};
 use std::alloc::Global;
 use std::test::Fail;
 use vfs_names::{Access, Actor, Blob, By, How, ItemId, Payload, VPath, Who};
+use writeback_queue::QueueTerms;
 
 const BY: By = By {
     who: Who {
@@ -30,6 +31,11 @@ const HOW: How = How {
     excl: false,
     trunc: false,
     append: false,
+};
+
+const TERMS: QueueTerms = QueueTerms {
+    write_back: 5000,
+    transfers: 4,
 };
 
 const PLAN: Plan = Plan {
@@ -62,7 +68,7 @@ fn serve(
 {
     let mut remote = remote;
     let mut disk = disk;
-    let mut session = OneSession::new(alloc, limit)?;
+    let mut session = OneSession::new(alloc, limit, TERMS)?;
     for line in lines {
         let What::Call(call) = &line.what else {
             return Err(Fail::new("no call"));

@@ -5,3 +5,4 @@ mod Meaning
 mod Numbers
 mod SizeWords
 mod Spelling
+mod TimeWords

@@ -68,7 +68,7 @@ unit_bytes_is _ _ ti = refl
 pub same_unit : (letters : List ℕ) (u v : ℕ) → IsUnit letters u → IsUnit letters v → u ≡ v
 same_unit letters u v p q = sym (unit_bytes_is letters u p) ∙ unit_bytes_is letters v q
 
-digit_is : (c : ℕ) → IsInRange 48 57 c → not (is_other c) ≡ true
+pub digit_is : (c : ℕ) → IsInRange 48 57 c → not (is_other c) ≡ true
 digit_is c h = ap (λ b. not (not b)) (and_from (nat_le 48 c) (nat_le c 57) (le-leb 48 c h.0) (le-leb c 57 h.1))
 
 -- digits end where another byte stands
@@ -85,12 +85,16 @@ digit_first (c ∷ digits) letters all begins =
     ∙ omega arith
 
 -- the number stands before the first byte that is no digit
-pub number_first : (n : ℕ) (letters : List ℕ) (unit : ℕ) → n < 2 ^ 64 → IsUnit letters unit
+pub number_front : (n : ℕ) (letters : List ℕ) → n < 2 ^ 64 → BeginsOther letters
     → before_first is_other (decimal n ++ letters) ≡ decimal n
-number_first n letters unit small u =
+number_front n letters small begins =
     ap (λ i. take i (decimal n ++ letters)) (digit_first (decimal n) letters
-    (decimal_is_IsNumeral n small).0.1 (unit_begins letters unit u))
+    (decimal_is_IsNumeral n small).0.1 begins)
     ∙ take-append_seam (decimal n) letters
+
+number_first : (n : ℕ) (letters : List ℕ) (unit : ℕ) → n < 2 ^ 64 → IsUnit letters unit
+    → before_first is_other (decimal n ++ letters) ≡ decimal n
+number_first n letters unit small u = number_front n letters small (unit_begins letters unit u)
 
 factor_below : (n unit size : ℕ) → 1 ≤ unit → size ≡ n * unit → size < 2 ^ 64 → n < 2 ^ 64
 factor_below n unit size least product below = omega (arith, mul-le-mul_left n least)

@@ -6,11 +6,11 @@ use Rattle.std.proofs.lemmas.Option.{same_Some}
 use Rattle.std.proofs.lemmas.Bool.{and_parts, not-true, eqb-false}
 use Rattle.std.proofs.lemmas.List.{append-nil}
 use Rattle.run_words.specs.declared.name.Name.{Name}
-use Rattle.run_words.specs.declared.name.Name.TheVariants.{Remote, Cache, CacheMode, WorkerTurns, ChunkSize, ChunkLimit}
+use Rattle.run_words.specs.declared.name.Name.TheVariants.{Remote, Cache, CacheMode, WorkerTurns, ChunkSize, ChunkLimit, WriteBack, Transfers}
 use Rattle.run_words.specs.Options.{Given, word_of, place, spelled}
 
 abbrev names : List Name
-names = Remote ∷ Cache ∷ CacheMode ∷ WorkerTurns ∷ ChunkSize ∷ ChunkLimit ∷ []
+names = Remote ∷ Cache ∷ CacheMode ∷ WorkerTurns ∷ ChunkSize ∷ ChunkLimit ∷ WriteBack ∷ Transfers ∷ []
 
 -- the first of the names that passes the test
 abbrev first_name : (Name → Bool) → List Name → Option Name
@@ -30,6 +30,8 @@ named-word_of CacheMode = refl
 named-word_of WorkerTurns = refl
 named-word_of ChunkSize = refl
 named-word_of ChunkLimit = refl
+named-word_of WriteBack = refl
+named-word_of Transfers = refl
 
 placed-place : (name : Name) → placed (place name) ≡ Some name
 placed-place Remote = refl
@@ -38,6 +40,8 @@ placed-place CacheMode = refl
 placed-place WorkerTurns = refl
 placed-place ChunkSize = refl
 placed-place ChunkLimit = refl
+placed-place WriteBack = refl
+placed-place Transfers = refl
 
 pub same_name : (a b : Name) → word_of a ≡ word_of b → a ≡ b
 same_name a b e = same_Some a b (sym (named-word_of a) ∙ ap named e ∙ named-word_of b)
@@ -56,6 +60,8 @@ is_free-word_of CacheMode = refl
 is_free-word_of WorkerTurns = refl
 is_free-word_of ChunkSize = refl
 is_free-word_of ChunkLimit = refl
+is_free-word_of WriteBack = refl
+is_free-word_of Transfers = refl
 
 pub heads : {A : Type 0} (x y : A) (xs ys : List A) → x ∷ xs ≡ y ∷ ys → x ≡ y
 heads x y xs ys e = cc

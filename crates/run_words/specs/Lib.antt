@@ -1,4 +1,5 @@
 pub mod Options
 pub mod Sizes
+pub mod Times
 pub mod Values
 pub mod Words

@@ -1,6 +1,7 @@
 //! The words of the command line of `vfs run`: its options in any order, read exactly.
 #![tactic(auto)]
 
+mod digits;
 mod dir;
 mod laws;
 mod name;
@@ -8,6 +9,7 @@ mod number;
 mod option;
 mod read;
 mod size;
+mod time;
 mod values;
 
 pub use laws::one_meaning;

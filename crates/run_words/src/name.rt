@@ -11,11 +11,13 @@ pub enum Name {
     WorkerTurns,
     ChunkSize,
     ChunkLimit,
+    WriteBack,
+    Transfers,
 }
 
 impl Name {
     /// How many options there are.
-    pub(crate) const COUNT: usize = 6;
+    pub(crate) const COUNT: usize = 8;
 
     /// The option that the word names.
     pub(crate) fn of(word: &str) -> Option<Name>
@@ -29,6 +31,8 @@ impl Name {
             "--worker-turns" => Some(Name::WorkerTurns),
             "--vfs-read-chunk-size" => Some(Name::ChunkSize),
             "--vfs-read-chunk-size-limit" => Some(Name::ChunkLimit),
+            "--vfs-write-back" => Some(Name::WriteBack),
+            "--transfers" => Some(Name::Transfers),
             _ => None,
         }
     }

@@ -1,16 +1,22 @@
-ghost use Rattle.std.specs.Prelude.{◌≡◌, ◌≢◌, ◌↔◌, ℕ, ◌∷◌, List, Some, map, string_bytes, unwrap_or, flat_map, AllPairs, IsTrue, IfOk, OnErr, IfSome, IfNone};
+ghost use Rattle.std.specs.Prelude.{◌≡◌, ◌≢◌, ◌↔◌, ℕ, ◌^◌, ◌≤◌, List, Option, Some, codes, map, string_bytes, unwrap_or, flat_map, AllPairs, IsTrue, IfOk, OnErr, IfSome, IfNone};
 ghost use Rattle.downloaders.specs.Rules.{HasChunk};
+ghost use Rattle.downloaders.specs.declared.Limit.{Limit};
 ghost use Rattle.run_words.specs.Options.{Given, spelled};
-ghost use Rattle.run_words.specs.Sizes.{IsAmount};
+ghost use Rattle.run_words.specs.Sizes.{IsChunk, IsLimit};
 ghost use Rattle.run_words.specs.Values.{found_in, HaveFound};
-ghost use Rattle.run_words.specs.Words.{IsDir, Asked, Ask, AreGiven, AreWords, meaning};
+ghost use Rattle.run_words.specs.Words.{IsDir, IsTransfers, Asked, Ask, AreGiven, AreWords, meaning};
 
 use crate::dir::is_dir;
 use crate::name::Name;
+use crate::number::number_of;
 use crate::option::take_option;
 use crate::size::Amount;
+use crate::time::time_of;
 use crate::values::Values;
 use downloaders::Plan;
+
+/// The most files that may be uploaded at a time.
+const MAX_TRANSFERS: u64 = 16;
 
 /// The words aren't in the language.
 #[derive(Clone, Copy, Debug, PartialEq, Eq)]
@@ -25,6 +31,10 @@ pub struct RunWords<'a> {
     pub cache: &'a str,
     /// The sizes of requests.
     pub plan: Plan,
+    /// The time in milliseconds between the last close of a changed file and its upload.
+    pub write_back: u64,
+    /// How many files are uploaded at a time, at most.
+    pub transfers: u32,
 }
 
 /// Reads the words after the program's name: `run` and its options, in any order, each at most
@@ -39,6 +49,10 @@ pub fn read_words(words: &[String]) -> Result<RunWords<'_>, NotWords>
 
     // What a plan has to be for every call that takes one.
     ensures chunk { IfOk result (λ run. HasChunk run.plan.chunk) }
+
+    // What a queue of uploads has to be told.
+    ensures terms { IfOk result (λ run. (run.write_back ≤ 2 ^ 40)
+        × (1 ≤ run.transfers) × (run.transfers ≤ 16)) }
 {
     let Some(values) = values_of(words) else {
         return Err(NotWords);
@@ -95,6 +109,8 @@ fn asked<'a>(values: &Values<'a>) -> Option<RunWords<'a>>
     ensures found { IfSome result (λ run. Ask (found_in values.now) (meaning run)) }
     ensures none { IfNone result ((asked : Asked) → Ask (found_in values.now) asked → ⊥) }
     ensures chunk { IfSome result (λ run. HasChunk run.plan.chunk) }
+    ensures terms { IfSome result (λ run. (run.write_back ≤ 2 ^ 40)
+        × (1 ≤ run.transfers) × (run.transfers ≤ 16)) }
 {
     let Some(remote) = dir(values, Name::Remote) else {
         return None;
@@ -105,20 +121,48 @@ fn asked<'a>(values: &Values<'a>) -> Option<RunWords<'a>>
     if !has(values, Name::CacheMode, "full") || !has(values, Name::WorkerTurns, "0") {
         return None;
     }
-    let Some(chunk) = amount(values, Name::ChunkSize, "128M") else {
+    let Some(plan) = plan(values) else {
         return None;
     };
-    let Some(limit) = amount(values, Name::ChunkLimit, "off") else {
+    let word = given_or(values, Name::WriteBack, "5s");
+    let Some(write_back) = time_of(word) else {
         return None;
     };
-    let plan = Plan {
-        chunk: chunk.chunk(),
-        limit: limit.limit(),
+    let word = given_or(values, Name::Transfers, "4");
+    let Some(transfers) = transfers_of(word) else {
+        return None;
     };
     Some(RunWords {
         remote,
         cache,
         plan,
+        write_back,
+        transfers,
+    })
+}
+
+/// The sizes of requests that the values ask for.
+fn plan(values: &Values) -> Option<Plan>
+    ensures chunk { IfSome result (λ plan. IsChunk
+        (unwrap_or (found_in values.now Name.ChunkSize) (codes "128M")) plan.chunk) }
+    ensures limit { IfSome result (λ plan. IsLimit
+        (unwrap_or (found_in values.now Name.ChunkLimit) (codes "off")) plan.limit) }
+    ensures some { IfSome result (λ plan. HasChunk plan.chunk) }
+    ensures none { IfNone result ((chunk : Option ℕ) (limit : Limit) →
+        IsChunk (unwrap_or (found_in values.now Name.ChunkSize) (codes "128M")) chunk →
+        IsLimit (unwrap_or (found_in values.now Name.ChunkLimit) (codes "off")) limit → ⊥) }
+{
+    let word = given_or(values, Name::ChunkSize, "128M");
+    let Some(chunk) = Amount::of(word) else {
+        return None;
+    };
+    let word = given_or(values, Name::ChunkLimit, "off");
+    let Some(limit) = Amount::of(word) else {
+        return None;
+    };
+    Some(Plan {
+        chunk: chunk.chunk(),
+        limit: limit.limit(),
     })
 }
 
@@ -145,15 +189,23 @@ fn has(values: &Values, name: Name, value: &str) -> bool
     }
 }
 
-/// The size or `off` that is given for the option, or this.
-fn amount(values: &Values, name: Name, otherwise: &str) -> Option<Amount>
-    ensures found { IfSome result (λ amount.
-        IsAmount (unwrap_or (found_in values.now name) otherwise.now) amount) }
-    ensures none { IfNone result ((amount : Amount) →
-        IsAmount (unwrap_or (found_in values.now name) otherwise.now) amount → ⊥) }
+/// The word that is given for the option, or this.
+fn given_or<'a>(values: &Values<'a>, name: Name, otherwise: &'static str) -> &'a [u8]
+    ensures { result.now ≡ unwrap_or (found_in values.now name) otherwise.now }
 {
     match values.get(name) {
-        Some(word) => Amount::of(word.as_bytes()),
-        None => Amount::of(otherwise.as_bytes()),
+        Some(word) => word.as_bytes(),
+        None => otherwise.as_bytes(),
+    }
+}
+
+/// The number of transfers that the word is.
+fn transfers_of(word: &[u8]) -> Option<u32>
+    ensures found { IfSome result (λ transfers. IsTransfers word.now transfers) }
+    ensures none { IfNone result ((transfers : ℕ) → IsTransfers word.now transfers → ⊥) }
+{
+    match number_of(word) {
+        Some(n) if n >= 1 && n <= MAX_TRANSFERS => Some(n as u32),
+        _ => None,
     }
 }

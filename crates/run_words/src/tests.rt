@@ -108,7 +108,9 @@ run -- --remote r --cache c
 run --remote r --cache c --help
 run --remote r --cache c -h
 run --remote r --cache c --read-ahead 1M
-run --remote r --cache c --transfers 4
+run --remote r --cache c --transfer 4
+run --remote r --cache c --write-back 5s
+run --remote r --cache c --vfs-write-bac 5s
 run --remote r --cache c --count 1
 run --remot r --cache c
 run --remotes r --cache c
@@ -156,7 +158,12 @@ bad --vfs-cache-mode full --worker-turns 0 --worker-turns=0
 bad --vfs-cache-mode full --worker-turns 0 --vfs-read-chunk-size
 bad --vfs-cache-mode full --worker-turns 0 --vfs-read-chunk-size 1M --vfs-read-chunk-size=1M
 bad --vfs-read-chunk-size-limit 0 --vfs-cache-mode=full --vfs-read-chunk-size-limit 0
-bad --vfs-read-chunk-size-limit 0 --vfs-cache-mode=full --worker-turns=0 --vfs-read-chunk";
+bad --vfs-read-chunk-size-limit 0 --vfs-cache-mode=full --worker-turns=0 --vfs-read-chunk
+good --transfers 2 --vfs-cache-mode full --worker-turns 0 --vfs-write-back 1s
+bad --vfs-cache-mode full --worker-turns 0 --transfers
+bad --vfs-cache-mode full --worker-turns 0 --vfs-write-back
+bad --transfers 2 --vfs-cache-mode full --worker-turns 0 --transfers=2
+bad --vfs-write-back=1s --vfs-cache-mode full --worker-turns 0 --vfs-write-back 1s";
     let alloc = rt.alloc();
     for row in rows.lines() {
         if let Some((expected, options)) = row.split_once(' ') {
@@ -294,6 +301,189 @@ o
 999999999999999999999999999999999999999999999999999999999999999999999999999Ti";
     for value in values.split('\n') {
         check_size(&rt, rt.alloc(), value, None)?;
+    }
+    Ok(())
+}
+
+/// The write-back time and the transfers that the needed words and these options ask for.
+fn terms_of(alloc: Global, options: &str) -> Result<Option<(u64, u32)>, Fail> {
+    let line = format!(in alloc; "{NEEDED}{options}")?;
+    let words = words_of(alloc, &line)?;
+    match read_words(&words) {
+        Ok(run) => Ok(Some((run.write_back, run.transfers))),
+        Err(NotWords) => Ok(None),
+    }
+}
+
+#[test]
+fn terms_are_given_or_have_defaults(rt: HostRuntime) -> Result<(), Fail> {
+    let table = [
+        ("", (5000, 4)),
+        (" --transfers 16", (5000, 16)),
+        (" --vfs-write-back 1m", (60_000, 4)),
+        (" --transfers=1 --vfs-write-back=0s", (0, 1)),
+        (" --vfs-write-back 90s --transfers 8", (90_000, 8)),
+    ];
+    for (options, expected) in table {
+        assert!(rt;
+            terms_of(rt.alloc(), options)? == Some(expected),
+            "{options}"
+        );
+    }
+    Ok(())
+}
+
+#[test]
+fn times_are_numbers_with_units(rt: HostRuntime) -> Result<(), Fail> {
+    let alloc = rt.alloc();
+    let table: [(&str, u64); 25] = [
+        ("0h", 0),
+        ("0m", 0),
+        ("0s", 0),
+        ("0ms", 0),
+        ("0h0m0s0ms", 0),
+        ("1h", 3_600_000),
+        ("1m", 60_000),
+        ("1s", 1000),
+        ("1ms", 1),
+        ("10ms", 10),
+        ("90s", 90_000),
+        ("1h2m", 3_720_000),
+        ("1h1s", 3_601_000),
+        ("1h1ms", 3_600_001),
+        ("1m1s", 61_000),
+        ("1m1ms", 60_001),
+        ("1s500ms", 1500),
+        ("1h2m3s4ms", 3_723_004),
+        ("305419h", 1_099_508_400_000),
+        ("18325193m", 1_099_511_580_000),
+        ("1099511627s", 1_099_511_627_000),
+        ("999999999999ms", 999_999_999_999),
+        ("1s999999999999ms", 1_000_000_000_999),
+        ("1099511627s776ms", 1_099_511_627_776),
+        ("305419h53m47s776ms", 1_099_511_627_776),
+    ];
+    for (value, millis) in table {
+        let option = format!(in alloc; " --vfs-write-back={value}")?;
+        assert!(rt; terms_of(alloc, &option)? == Some((millis, 4)), "{value}");
+    }
+    Ok(())
+}
+
+#[test]
+fn other_times_are_refused(rt: HostRuntime) -> Result<(), Fail> {
+    let values = "\
+5
+
+0
+s
+h
+m
+ms
+1m1h
+1s1h
+1s1m
+1ms1h
+1ms1m
+1ms1s
+1h1h
+1m1m
+1s1s
+1ms1ms
+1m2s3m
+01s
+00s
+1h01m
+1h00ms
+1s5
+1h2m3
+1h2
+1 s
+1h 2m
+\u{20}1s
+1s\u{20}
+1.5s
+1,000s
+-1s
++1s
+1h-1m
+1h+1m
+0x1s
+1M
+1H
+1S
+1Ms
+1mS
+1MS
+1d
+1w
+1us
+1ns
+1sec
+1hm
+1sms
+1mms
+1mss
+1msm
+1ss
+hm1s
+x1s
+off
+1099511627s777ms
+305419h53m47s777ms
+1099511628s
+18325194m
+305420h
+1000000000000ms
+1099511627776ms
+1000000000000h
+0h1000000000000ms
+999999999999h
+999999999999h999999999999m999999999999s999999999999ms
+5124095576h
+18446744073709551616ms
+18446744073709551617ms
+0000000000001s
+100000000000000000000000000000000000000000000000000000000000000000000000000s";
+    let alloc = rt.alloc();
+    for value in values.split('\n') {
+        let option = format!(in alloc; " --vfs-write-back={value}")?;
+        assert!(rt; terms_of(alloc, &option)?.is_none(), "{value}");
+    }
+    Ok(())
+}
+
+#[test]
+fn transfers_are_one_to_16(rt: HostRuntime) -> Result<(), Fail> {
+    let alloc = rt.alloc();
+    for count in 0..20u32 {
+        let option = format!(in alloc; " --transfers={count}")?;
+        let expected = if count >= 1 && count <= 16 {
+            Some((5000, count))
+        } else {
+            None
+        };
+        assert!(rt; terms_of(alloc, &option)? == expected, "{count}");
+    }
+    let values = "\
+
+01
+016
++4
+-4
+4.0
+\u{20}4
+4\u{20}
+4s
+four
+off
+0x4
+100
+4294967297
+18446744073709551617";
+    for value in values.split('\n') {
+        let option = format!(in alloc; " --transfers={value}")?;
+        assert!(rt; terms_of(alloc, &option)?.is_none(), "{value}");
     }
     Ok(())
 }

@@ -6,7 +6,7 @@ use crate::name::Name;
 #[derive(Clone, Copy)]
 pub(crate) struct Values<'a> {
     places: [Option<&'a str>; Name::COUNT],
-    ghost all: { length places ≡ 6 },
+    ghost all: { length places ≡ 8 },
 }
 
 impl<'a> Values<'a> {

@@ -1,13 +1,13 @@
 -- A session that was asked for no call yet.
-use Rattle.std.proofs.Common.{◌≡◌, ◌≤◌, ℕ, Option, List, [], length, reverse, ap, arith, refl, subst, sym}
+use Rattle.std.proofs.Common.{◌≡◌, ◌≤◌, ◌^◌, ℕ, Option, List, [], length, reverse, ap, arith, refl, subst, sym}
 use Rattle.vfs_names.specs.declared.who.By.{By}
 use Rattle.vfs_names.specs.declared.fingerprint.Fingerprint.{Fingerprint}
+use Rattle.run_words.specs.Words.{Asked}
 use Rattle.session_script.specs.declared.call.Line.{Line}
 use Rattle.vfs_outside.specs.Disk.{Disk}
 use Rattle.vfs_outside.specs.Outside.{Outside}
 use Rattle.vfs_outside.proofs.Told.{appends_nothing}
 use Rattle.item_core.specs.Content.{Known}
-use Rattle.downloaders.specs.declared.Plan.{Plan}
 use Rattle.sparse_item.specs.Item.{Item}
 use Rattle.one_session.specs.Causes.{AreGiven}
 use Rattle.one_session.specs.Served.{Fits, Knows, Served}
@@ -18,7 +18,7 @@ use Rattle.one_session.specs.Whole.{IsUpTo}
 use Rattle.vfs_top.specs.Around.{Around}
 use Rattle.vfs_top.specs.Event.{maker_at}
 use Rattle.vfs_top.specs.Going.{CanDoAll, IsGoing, IsUnderWay, IsUntouched, now}
-use Rattle.vfs_top.specs.Phases.{history_limit}
+use Rattle.vfs_top.specs.Phases.{history_limit, terms_of}
 use Rattle.vfs_top.specs.declared.phase.Phase.{Phase}
 
 -- no file was given anything
@@ -26,10 +26,10 @@ none_given : (tells : Type 0) (handed : List (Fingerprint × List ℕ)) (items :
 none_given tells handed items none = subst (λ l. AreGiven tells handed (given_all l)) (sym none) (λ known h. tt)
 
 -- nothing was done
-pub none_gone : (kept tells : Type 0) (plan : Plan) (start o : Around) (w : Option (List ℕ)) (f : ℕ) (lines : List Line) (by : By) (s : State)
-    → by ≡ maker_at 1 o.moment → start.moment ≤ o.moment → o.remote ≡ start.remote → o.disk ≡ start.disk → Fits 1 (Knows kept tells o.remote.handed) [] s → s.limit ≡ history_limit → s.files ≡ []
-    → IsUntouched s → CanDoAll lines → length lines ≤ 65536 → length lines ≤ s.room → IsGoing kept tells plan start lines lines by [] (now s w f o)
-none_gone kept tells plan start o w f lines by s maker sooner same same_disk fits limit files untouched can few room = record {
+pub none_gone : (kept tells : Type 0) (run : Asked) (start o : Around) (w : Option (List ℕ)) (f : ℕ) (lines : List Line) (by : By) (s : State)
+    → by ≡ maker_at 1 o.moment → start.moment ≤ o.moment → o.remote ≡ start.remote → o.disk ≡ start.disk → Fits 1 (Knows kept tells o.remote.handed) [] s → s.limit ≡ history_limit → s.terms ≡ terms_of run → s.files ≡ []
+    → IsUntouched s → CanDoAll lines → length lines ≤ 65536 → length lines ≤ s.room → IsGoing kept tells run start lines lines by [] (now s w f o)
+none_gone kept tells run start o w f lines by s maker sooner same same_disk fits limit terms files untouched can few room = record {
   asked = refl;
   first = o.moment;
   no_sooner = sooner;
@@ -40,8 +40,10 @@ none_gone kept tells plan start o w f lines by s maker sooner same same_disk fit
   fits = fits;
   given = none_given tells o.remote.handed s.items untouched.items;
   limit = limit;
+  terms = terms;
+  entered = untouched.queue;
   causes = tt;
-  steps = subst (λ l. AreSteps plan start.disk.faults o.disk.faults s.items [] (reverse l)) (sym untouched.steps) untouched.items;
+  steps = subst (λ l. AreSteps run.plan start.disk.faults o.disk.faults s.items [] (reverse l)) (sym untouched.steps) untouched.items;
   disk_faults = omega (arith, ap (λ (d : Disk). d.faults) same_disk);
   remote_faults = omega (arith, ap (λ (r : Outside). r.faults) same);
   changes = omega (arith, ap (λ (r : Outside). r.changes) same);
@@ -53,12 +55,13 @@ none_gone kept tells plan start o w f lines by s maker sooner same same_disk fit
 }
 
 -- all lines are left
-pub all_left : (kept tells : Type 0) (plan : Plan) (start o : Around) (w : Option (List ℕ)) (f : ℕ) (lines : List Line) (p : Phase) (s : State)
-    → p.by ≡ maker_at 1 o.moment → p.before ≡ 0 → start.moment ≤ o.moment → o.remote ≡ start.remote → o.disk ≡ start.disk → Fits 1 (Knows kept tells o.remote.handed) [] s → s.limit ≡ history_limit → s.files ≡ []
-    → IsUntouched s → CanDoAll lines → length lines ≤ 65536 → length lines ≤ s.room → IsUnderWay kept tells plan (now s w f start) lines lines p (now s w f o)
-all_left kept tells plan start o w f lines p s maker none sooner same same_disk fits limit files untouched can few room = record {
+pub all_left : (kept tells : Type 0) (run : Asked) (start o : Around) (w : Option (List ℕ)) (f : ℕ) (lines : List Line) (p : Phase) (s : State)
+    → p.by ≡ maker_at 1 o.moment → p.before ≡ 0 → start.moment ≤ o.moment → o.remote ≡ start.remote → o.disk ≡ start.disk → Fits 1 (Knows kept tells o.remote.handed) [] s → s.limit ≡ history_limit → s.terms ≡ terms_of run → s.files ≡ []
+    → IsUntouched s → CanDoAll lines → length lines ≤ 65536 → length lines ≤ s.room → o.moment ≤ 2 ^ 62 → IsUnderWay kept tells run (now s w f start) lines lines p (now s w f o)
+all_left kept tells run start o w f lines p s maker none sooner same same_disk fits limit terms files untouched can few room small = record {
   events = [];
-  going = none_gone kept tells plan start o w f lines p.by s maker sooner same same_disk fits limit files untouched can few room;
+  most = small;
+  going = none_gone kept tells run start o w f lines p.by s maker sooner same same_disk fits limit terms files untouched can few room;
   told = record {
     text = appends_nothing w;
     faults = omega arith;
@@ -73,4 +76,4 @@ fits_still holds served s room f = record { matching = f.matching; handles = f.h
 
 -- and there is no file
 pub untouched_still : (s : State) (room : ℕ) → IsUntouched s → IsUntouched (record s { room = room })
-untouched_still s room u = record { items = u.items; steps = u.steps }
+untouched_still s room u = record { items = u.items; steps = u.steps; queue = u.queue }

@@ -6,7 +6,6 @@ use Rattle.vfs_outside.specs.Causes.{AppendsFront}
 use Rattle.vfs_outside.specs.Disk.{Disk}
 use Rattle.vfs_outside.specs.Outside.{Outside}
 use Rattle.vfs_outside.specs.declared.tree.TreeEntry.{TreeEntry}
-use Rattle.downloaders.specs.declared.Plan.{Plan}
 use Rattle.run_words.specs.Words.{Asked}
 use Rattle.session_script.specs.declared.call.Line.{Line}
 use Rattle.one_session.specs.Causes.{HasRemoteCause}
@@ -36,7 +35,7 @@ starved_stop kept tells words old new epochs p = inl (record {
 
 -- once the script was read
 pub broken_run : (kept tells : Type 0) (words : List (List ℕ)) (old new : Told) (asked : Asked) (script : List Line) (epochs : List Epoch) → IsReady words old.left new.left asked script
-    → BreaksStarted kept tells asked.plan old.written new.written old.around new.around script epochs → Breaks kept tells words old new epochs
+    → BreaksStarted kept tells asked old.written new.written old.around new.around script epochs → Breaks kept tells words old new epochs
 broken_run kept tells words old new asked script epochs r (inl p) = inl (record {
   stop = p.stop;
   cause = inr (record { asked = asked; script = script; ready = r; cause = p.cause });
@@ -47,7 +46,7 @@ broken_run kept tells words old new asked script epochs r (inl p) = inl (record 
 broken_run kept tells words old new asked script epochs r (inr p) = inr (record { asked = asked; script = script; ready = r; some = p })
 
 pub starved_run : (kept tells : Type 0) (words : List (List ℕ)) (old new : Told) (asked : Asked) (script : List Line) (epochs : List Epoch) → IsReady words old.left new.left asked script
-    → StarvesStarted kept tells asked.plan old.written new.written old.around new.around script epochs → Breaks kept tells words old new epochs
+    → StarvesStarted kept tells asked old.written new.written old.around new.around script epochs → Breaks kept tells words old new epochs
 starved_run kept tells words old new asked script epochs r (inl p) = starved_stop kept tells words old new epochs p
 starved_run kept tells words old new asked script epochs r (inr p) = broken_run kept tells words old new asked script epochs r p
 
@@ -63,13 +62,13 @@ breaks_still kept tells words old left source_faults written a b o epochs (inl p
 breaks_still kept tells words old left source_faults written a b o epochs (inr p) = inr (record { asked = p.asked; script = p.script; ready = p.ready; some = p.some })
 
 -- an epoch after the remote and the disk were attached, told from before
-module _ (kept tells : Type 0) (plan : Plan) (old mid new : Around) (moment : mid.moment ≡ old.moment) (more : List (Fingerprint × List ℕ)) (f : old.remote.faults ≤ mid.remote.faults)
+module _ (kept tells : Type 0) (run : Asked) (old mid new : Around) (moment : mid.moment ≡ old.moment) (more : List (Fingerprint × List ℕ)) (f : old.remote.faults ≤ mid.remote.faults)
     (g : old.remote.changes ≤ mid.remote.changes) (h : mid.remote.handed ≡ more ++ old.remote.handed) (d : old.disk.faults ≤ mid.disk.faults) (s : IsStill kept old.disk mid.disk) where
   causes_before : (served : List Served) (tree : List TreeEntry) → AllByRecursion (λ (d : Served). HasRemoteCause d.line.call d.done tree mid.remote new.remote) served → AllByRecursion (λ (d : Served). HasRemoteCause d.line.call d.done tree old.remote new.remote) served
   causes_before [] tree causes = tt
   causes_before (d ∷ served) tree causes = (later_cause d.line.call d.done tree old.remote mid.remote new.remote more f g h causes.0, causes_before served tree causes.1)
 
-  epoch_before : (lines : List Line) (events : List Event) (e : Epoch) → IsEpoch kept tells plan mid new lines events e → IsEpoch kept tells plan old new lines events e
+  epoch_before : (lines : List Line) (events : List Event) (e : Epoch) → IsEpoch kept tells run mid new lines events e → IsEpoch kept tells run old new lines events e
   epoch_before lines events e p = record {
     empty = λ k. empty_before old.disk mid.disk (s.told k) (p.empty k);
     asked = p.asked;
@@ -80,23 +79,25 @@ module _ (kept tells : Type 0) (plan : Plan) (old mid new : Around) (moment : mi
     recorded = p.recorded;
     causes = causes_before (calls_of events) e.tree p.causes;
     left = p.left;
-    steps = steps_later plan mid.disk.faults new.disk.faults old.disk.faults new.disk.faults p.left (calls_of events) (reverse e.steps) d (omega arith) p.steps;
+    steps = steps_later run.plan mid.disk.faults new.disk.faults old.disk.faults new.disk.faults p.left (calls_of events) (reverse e.steps) d (omega arith) p.steps;
     matching = p.matching;
     whole = p.whole;
     phases = p.phases;
+    entered = p.entered;
+    queued = p.queued;
     back = p.back;
     images = p.images;
   }
 
-  pub all_before : (written written' : Option (List ℕ)) (script : List Line) (epochs : List Epoch) → DoesAll kept tells plan written written' mid new script epochs → DoesAll kept tells plan written written' old new script epochs
+  pub all_before : (written written' : Option (List ℕ)) (script : List Line) (epochs : List Epoch) → DoesAll kept tells run written written' mid new script epochs → DoesAll kept tells run written written' old new script epochs
   all_before written written' script epochs p = record { epoch = p.epoch; only = p.only; events = p.events; did = epoch_before script p.events p.epoch p.did; text = p.text }
 
-  front_before : (script : List Line) (events : List Event) (e : Epoch) → DoesFront kept tells plan mid new script events e → DoesFront kept tells plan old new script events e
+  front_before : (script : List Line) (events : List Event) (e : Epoch) → DoesFront kept tells run mid new script events e → DoesFront kept tells run old new script events e
   front_before script events e p = record { lines = p.lines; others = p.others; front = p.front; did = epoch_before p.lines events e p.did }
 
-  pub some_before : (written written' : Option (List ℕ)) (script : List Line) (epochs : List Epoch) → DoesSome kept tells plan written written' mid new script epochs → DoesSome kept tells plan written written' old new script epochs
+  pub some_before : (written written' : Option (List ℕ)) (script : List Line) (epochs : List Epoch) → DoesSome kept tells run written written' mid new script epochs → DoesSome kept tells run written written' old new script epochs
   some_before written written' script epochs p = record { epoch = p.epoch; only = p.only; events = p.events; did = front_before script p.events p.epoch p.did; text = p.text; told = p.told }
 
-  pub starved_before : (written written' : Option (List ℕ)) (script : List Line) (epochs : List Epoch) → DoesNothing kept written written' mid new epochs ⊎ DoesSome kept tells plan written written' mid new script epochs → StarvesStarted kept tells plan written written' old new script epochs
+  pub starved_before : (written written' : Option (List ℕ)) (script : List Line) (epochs : List Epoch) → DoesNothing kept written written' mid new epochs ⊎ DoesSome kept tells run written written' mid new script epochs → StarvesStarted kept tells run written written' old new script epochs
   starved_before written written' script epochs (inl p) = inl (record { none = p.none; same = p.same; still = still_twice kept old.disk mid.disk new.disk s p.still })
   starved_before written written' script epochs (inr p) = inr (inr (some_before written written' script epochs p))

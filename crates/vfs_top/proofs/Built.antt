@@ -47,7 +47,7 @@ servable (call.Rename from to) arguments a e = cc
 
 can_do : (n : ℕ) (text : List ℕ) (asked : What) → Does n text asked → CanDo n asked
 can_do n text (what.Call c) d = (sym d.line.words.0, eqb-true c.session 1 (left_holds _ _ d.built), servable c.call d.line.words.2 d.line.words.3 (right_holds (c.session == 1) _ d.built))
-can_do n text (what.Advance ms) d = cc (d.built)
+can_do n text (what.Advance ms) d = tt
 can_do n text what.Tick d = cc (d.built)
 can_do n text what.Clean d = cc (d.built)
 can_do n text what.Poll d = cc (d.built)

@@ -4,14 +4,17 @@ use Rattle.std.specs.Io.KnownBytes.{Appends}
 use Rattle.vfs_names.specs.declared.who.By.{By}
 use Rattle.vfs_outside.proofs.Told.{appends_twice}
 use Rattle.std.specs.List.{AllByRecursion}
-use Rattle.std.specs.Prelude.{false}
+use Rattle.std.specs.Prelude.{IfOk, false}
 use Rattle.vfs_names.specs.declared.fingerprint.Fingerprint.{Fingerprint}
+use Rattle.vfs_names.specs.declared.calls.QueueRow.{QueueRow}
 use Rattle.vfs_outside.specs.Causes.{AppendsFront}
 use Rattle.vfs_outside.specs.Outside.{Outside}
+use Rattle.run_words.specs.Words.{Asked}
 use Rattle.session_script.specs.declared.call.Line.{Line}
 use Rattle.session_text.specs.Lines.{end_text, start_text}
-use Rattle.downloaders.specs.declared.Plan.{Plan}
 use Rattle.one_session.specs.Causes.{AreGiven, HasRemoteCause}
+use Rattle.writeback_queue.specs.declared.entry.QueueTerms.{QueueTerms}
+use Rattle.one_session.specs.Queued.{IsQueued, owed_in, queue_of}
 use Rattle.one_session.specs.Served.{Fits, IsServed, Knows, Served}
 use Rattle.one_session.specs.Slots.{ImagesStand}
 use Rattle.one_session.specs.State.{State}
@@ -26,18 +29,20 @@ use Rattle.vfs_top.specs.Ended.{RunsEpoch, RunsLines}
 use Rattle.vfs_top.specs.Epoch.{Epoch}
 use Rattle.vfs_top.specs.Event.{Event, before_last, calls_of, line_of, maker_at}
 use Rattle.vfs_top.specs.Going.{CanDoAll, HasGone, IsGoing, IsUntouched, Now, now}
-use Rattle.vfs_top.specs.Phases.{DoesFront, IsEpoch, history_limit}
+use Rattle.vfs_top.specs.Phases.{DoesFront, IsEpoch, history_limit, terms_of}
 use Rattle.vfs_top.specs.Transcript.{end_block, shown_in, shown_texts, texts_of}
 use Rattle.vfs_top.specs.Writing.{AppendsPast, Writes}
 use Rattle.vfs_top.specs.declared.write.Unwritten.{Unwritten}
 
 abbrev epoch_in : State → Epoch
-epoch_in s = record { tree = s.tree; files = s.files; records = s.records; steps = s.steps }
+epoch_in s = record { tree = s.tree; files = s.files; queue = s.queue; records = s.records; steps = s.steps }
 
 -- what a session handed over when its files were given back to the disk, from a moment to another
 pub record HandsOver (kept tells : Type 0) (s : State) (old new : Around) (e : Epoch) : Type 0 where
   pub tree : e.tree ≡ s.tree
   pub files : e.files ≡ s.files
+  pub queue : e.queue ≡ s.queue
+  pub queued : IsQueued s.terms (owed_in s.files) s.queue
   pub records : e.records ≡ s.records
   pub steps : e.steps ≡ s.steps
   pub whole : IsWhole 1 s.tree s.files
@@ -49,18 +54,19 @@ pub record HandsOver (kept tells : Type 0) (s : State) (old new : Around) (e : E
 
 along : (kept tells : Type 0) (P : Epoch → Type 0) (s : State) (old new : Around) (e : Epoch) → HandsOver kept tells s old new e → P (epoch_in s) → P e
 along kept tells P s old new e is p =
-    subst (λ l. P (record { tree = l; files = e.files; records = e.records; steps = e.steps })) (sym is.tree)
-    (subst (λ l. P (record { tree = s.tree; files = l; records = e.records; steps = e.steps })) (sym is.files)
-    (subst (λ l. P (record { tree = s.tree; files = s.files; records = l; steps = e.steps })) (sym is.records)
-    (subst (λ l. P (record { tree = s.tree; files = s.files; records = s.records; steps = l })) (sym is.steps) p)))
+    subst (λ l. P (record { tree = l; files = e.files; queue = e.queue; records = e.records; steps = e.steps })) (sym is.tree)
+    (subst (λ l. P (record { tree = s.tree; files = l; queue = e.queue; records = e.records; steps = e.steps })) (sym is.files)
+    (subst (λ l. P (record { tree = s.tree; files = s.files; queue = l; records = e.records; steps = e.steps })) (sym is.queue)
+    (subst (λ l. P (record { tree = s.tree; files = s.files; queue = s.queue; records = l; steps = e.steps })) (sym is.records)
+    (subst (λ l. P (record { tree = s.tree; files = s.files; queue = s.queue; records = s.records; steps = l })) (sym is.steps) p))))
 
 at_remote : (P : Outside → Type 0) (old new : Around) → new.remote ≡ old.remote → P old.remote → P new.remote
 at_remote P old new same p = subst P (sym same) p
 
-epoch_left : (kept tells : Type 0) (plan : Plan) (start new : Around) (a : Now) (lines left : List Line) (by : By) (events : List Event) (e : Epoch) → (kept → IsEmpty start.disk)
-    → IsGoing kept tells plan start lines left by events a → HandsOver kept tells a.session a.around new e
-    → IsEpoch kept tells plan start new (map line_of (reverse events)) events (epoch_in a.session)
-epoch_left kept tells plan start new a lines left by events e empty g h = record {
+epoch_left : (kept tells : Type 0) (run : Asked) (start new : Around) (a : Now) (lines left : List Line) (by : By) (events : List Event) (e : Epoch) → (kept → IsEmpty start.disk)
+    → IsGoing kept tells run start lines left by events a → HandsOver kept tells a.session a.around new e
+    → IsEpoch kept tells run start new (map line_of (reverse events)) events (epoch_in a.session)
+epoch_left kept tells run start new a lines left by events e empty g h = record {
   empty = empty;
   asked = refl;
   first = g.first;
@@ -70,22 +76,24 @@ epoch_left kept tells plan start new a lines left by events e empty g h = record
   recorded = g.fits.records;
   causes = at_remote (λ (o : Outside). AllByRecursion (λ (d : Served). HasRemoteCause d.line.call d.done a.session.tree start.remote o) (calls_of events)) a.around new h.remote g.causes;
   left = a.session.items;
-  steps = steps_later plan start.disk.faults a.around.disk.faults start.disk.faults new.disk.faults a.session.items (calls_of events) (reverse a.session.steps) (omega arith) h.faults g.steps;
+  steps = steps_later run.plan start.disk.faults a.around.disk.faults start.disk.faults new.disk.faults a.session.items (calls_of events) (reverse a.session.steps) (omega arith) h.faults g.steps;
   matching = at_remote (λ (o : Outside). IsServed 1 (Knows kept tells o.handed) history_limit (calls_of events) a.session.tree a.session.files) a.around new h.remote
       (subst (λ n. IsServed 1 (Knows kept tells a.around.remote.handed) n (calls_of events) a.session.tree a.session.files) g.limit g.fits.matching);
   whole = h.whole;
   phases = by_phase g.first events a.session.tree a.session.files g.timely g.fits.matching.tree h.whole;
+  entered = g.entered;
+  queued = subst (λ terms. IsQueued terms (owed_in a.session.files) a.session.queue) g.terms h.queued;
   back = h.back;
   images = λ k. at_remote (λ (o : Outside). ImagesStand tells o.handed new.disk a.session.files) a.around new h.remote (h.images k a.around.remote.handed g.given);
 }
 
-front_left : (kept tells : Type 0) (plan : Plan) (start new : Around) (a : Now) (lines left : List Line) (by : By) (events : List Event) (e : Epoch) → (kept → IsEmpty start.disk)
-    → IsGoing kept tells plan start lines left by events a → HandsOver kept tells a.session a.around new e → DoesFront kept tells plan start new lines events e
-front_left kept tells plan start new a lines left by events e empty g h = record {
+front_left : (kept tells : Type 0) (run : Asked) (start new : Around) (a : Now) (lines left : List Line) (by : By) (events : List Event) (e : Epoch) → (kept → IsEmpty start.disk)
+    → IsGoing kept tells run start lines left by events a → HandsOver kept tells a.session a.around new e → DoesFront kept tells run start new lines events e
+front_left kept tells run start new a lines left by events e empty g h = record {
   lines = map line_of (reverse events);
   others = left;
   front = sym g.asked;
-  did = along kept tells (IsEpoch kept tells plan start new (map line_of (reverse events)) events) a.session a.around new e h (epoch_left kept tells plan start new a lines left by events e empty g h);
+  did = along kept tells (IsEpoch kept tells run start new (map line_of (reverse events)) events) a.session a.around new e h (epoch_left kept tells run start new a lines left by events e empty g h);
 }
 
 all_asked : (lines done left : List Line) → done ++ left ≡ lines → left ≡ [] → done ≡ lines
@@ -101,54 +109,65 @@ past_front w0 w1 w2 a b p q = (p.0 ++ q.0, subst (Appends w0 w2) (append_assoc a
 past_after : (w0 w1 w2 : Option (List ℕ)) (a b : List ℕ) → Appends w0 w1 a → AppendsPast w1 w2 b → AppendsPast w0 w2 (a ++ b)
 past_after w0 w1 w2 a b p q = (q.0, subst (Appends w0 w2) (sym (append_assoc a b q.0)) (appends_twice w0 w1 w2 a (b ++ q.0) p q.1))
 
+-- the rows were made of the queue and of the files that were handed over
+rows_over : (kept tells : Type 0) (run : Asked) (start a : Now) (new : Around) (lines : List Line) (e : Epoch) {V X : Type 0} (rows : Result V X) (items : V → List QueueRow)
+    → HasGone kept tells run lines start a (Ok tt) → HandsOver kept tells a.session a.around new e
+    → IfOk rows (λ v. items v ≡ queue_of a.session.terms.write_back a.session.queue a.session.files) → IfOk rows (λ v. items v ≡ queue_of run.write_back e.queue e.files)
+rows_over kept tells run start a new lines e (Ok v) items gone h is =
+    is ∙ ap (λ (terms : QueueTerms). queue_of terms.write_back a.session.queue a.session.files) gone.going.terms
+    ∙ ap (λ queue. queue_of run.write_back queue a.session.files) (sym h.queue) ∙ ap (λ files. queue_of run.write_back e.queue files) (sym h.files)
+rows_over kept tells run start a new lines e (Err x) items gone h is = tt
+
 -- all lines were done, and then the end was written or not
-pub lines_done : (kept tells : Type 0) (plan : Plan) (start a : Now) (new : Around) (lines : List Line) (e : Epoch) (written : Option (List ℕ)) (faults : ℕ) (r : Result (Unit {0}) Unwritten)
-    → (kept → IsEmpty start.around.disk) → HasGone kept tells plan lines start a (Ok tt) → HandsOver kept tells a.session a.around new e
-    → Writes a.written written a.faults faults (end_block e ++ end_text 0) r
-    → RunsLines kept tells plan start.written written start.faults faults start.around new lines e r
-lines_done kept tells plan start a new lines e written faults r empty gone h x =
+pub lines_done : (kept tells : Type 0) (run : Asked) (start a : Now) (new : Around) (lines : List Line) (e : Epoch) (written : Option (List ℕ)) (faults : ℕ) (r : Result (Unit {0}) Unwritten) {V X : Type 0} (rows : Result V X) (items : V → List QueueRow)
+    → (kept → IsEmpty start.around.disk) → HasGone kept tells run lines start a (Ok tt) → HandsOver kept tells a.session a.around new e
+    → IfOk rows (λ v. items v ≡ queue_of a.session.terms.write_back a.session.queue a.session.files)
+    → ((write_back : ℕ) → IfOk rows (λ v. items v ≡ queue_of write_back e.queue e.files) → Writes a.written written a.faults faults (end_block write_back e ++ end_text 0) r)
+    → RunsLines kept tells run start.written written start.faults faults start.around new lines e r
+lines_done kept tells run start a new lines e written faults r rows items empty gone h made writes =
+    let x = writes run.write_back (rows_over kept tells run start a new lines e rows items gone h made) in
     record {
       events = gone.events;
-      did = front_left kept tells plan start.around new a lines gone.left gone.by gone.events e empty gone.going h;
-      all = on_ok r (subst (λ l. IsEpoch kept tells plan start.around new l gone.events e) (all_asked lines (map line_of (reverse gone.events)) gone.left gone.going.asked gone.all)
-          (along kept tells (IsEpoch kept tells plan start.around new (map line_of (reverse gone.events)) gone.events) a.session a.around new e h
-          (epoch_left kept tells plan start.around new a lines gone.left gone.by gone.events e empty gone.going h)));
-      text = writes_twice start.written a.written written start.faults a.faults faults (texts_of gone.events) (end_block e ++ end_text 0) r gone.text x;
-      told = past_front start.written a.written written (texts_of (before_last gone.events)) (end_block e ++ end_text 0) gone.most (some_written a.written written (end_block e ++ end_text 0) r x.all x.front);
+      did = front_left kept tells run start.around new a lines gone.left gone.by gone.events e empty gone.going h;
+      all = on_ok r (subst (λ l. IsEpoch kept tells run start.around new l gone.events e) (all_asked lines (map line_of (reverse gone.events)) gone.left gone.going.asked gone.all)
+          (along kept tells (IsEpoch kept tells run start.around new (map line_of (reverse gone.events)) gone.events) a.session a.around new e h
+          (epoch_left kept tells run start.around new a lines gone.left gone.by gone.events e empty gone.going h)));
+      text = writes_twice start.written a.written written start.faults a.faults faults (texts_of gone.events) (end_block run.write_back e ++ end_text 0) r gone.text x;
+      told = past_front start.written a.written written (texts_of (before_last gone.events)) (end_block run.write_back e ++ end_text 0) gone.most (some_written a.written written (end_block run.write_back e ++ end_text 0) r x.all x.front);
     }
 
 -- not all was written that the lines showed
-pub lines_broken : (kept tells : Type 0) (plan : Plan) (start a : Now) (new : Around) (lines : List Line) (e : Epoch) (why : Unwritten)
-    → (kept → IsEmpty start.around.disk) → HasGone kept tells plan lines start a (Err why) → HandsOver kept tells a.session a.around new e
-    → RunsLines kept tells plan start.written a.written start.faults a.faults start.around new lines e (Err why)
-lines_broken kept tells plan start a new lines e why empty gone h = record {
+pub lines_broken : (kept tells : Type 0) (run : Asked) (start a : Now) (new : Around) (lines : List Line) (e : Epoch) (why : Unwritten)
+    → (kept → IsEmpty start.around.disk) → HasGone kept tells run lines start a (Err why) → HandsOver kept tells a.session a.around new e
+    → RunsLines kept tells run start.written a.written start.faults a.faults start.around new lines e (Err why)
+lines_broken kept tells run start a new lines e why empty gone h = record {
   events = gone.events;
-  did = front_left kept tells plan start.around new a lines gone.left gone.by gone.events e empty gone.going h;
+  did = front_left kept tells run start.around new a lines gone.left gone.by gone.events e empty gone.going h;
   all = tt;
-  text = writes_neither start.written a.written start.faults a.faults (texts_of gone.events) (end_block e ++ end_text 0) why gone.text;
+  text = writes_neither start.written a.written start.faults a.faults (texts_of gone.events) (end_block run.write_back e ++ end_text 0) why gone.text;
   told = gone.most;
 }
 
 -- the start was written before
-pub started : (kept tells : Type 0) (plan : Plan) (w0 w1 w2 : Option (List ℕ)) (f0 f1 f2 : ℕ) (old new : Around) (lines : List Line) (e : Epoch) (r : Result (Unit {0}) Unwritten)
-    → Writes w0 w1 f0 f1 (start_text 0 0 0) (Ok tt) → RunsLines kept tells plan w1 w2 f1 f2 old new lines e r → RunsEpoch kept tells plan w0 w2 f0 f2 old new lines e r
-started kept tells plan w0 w1 w2 f0 f1 f2 old new lines e r p q = record {
+pub started : (kept tells : Type 0) (run : Asked) (w0 w1 w2 : Option (List ℕ)) (f0 f1 f2 : ℕ) (old new : Around) (lines : List Line) (e : Epoch) (r : Result (Unit {0}) Unwritten)
+    → Writes w0 w1 f0 f1 (start_text 0 0 0) (Ok tt) → RunsLines kept tells run w1 w2 f1 f2 old new lines e r → RunsEpoch kept tells run w0 w2 f0 f2 old new lines e r
+started kept tells run w0 w1 w2 f0 f1 f2 old new lines e r p q = record {
   events = q.events;
   did = q.did;
   all = q.all;
-  text = epoch_written w0 w1 w2 f0 f1 f2 (start_text 0 0 0) (shown_texts (shown_in q.events)) (end_block e) (end_text 0) r p q.text;
+  text = epoch_written w0 w1 w2 f0 f1 f2 (start_text 0 0 0) (shown_texts (shown_in q.events)) (end_block run.write_back e) (end_text 0) r p q.text;
   told = inr (past_after w0 w1 w2 (start_text 0 0 0) (texts_of (before_last q.events)) p.all q.told);
 }
 
 -- the start wasn't written, and nothing was done
-pub not_started : (kept tells : Type 0) (plan : Plan) (o new : Around) (w0 w1 : Option (List ℕ)) (f0 f1 : ℕ) (lines : List Line) (s : State) (e : Epoch) (why : Unwritten)
-    → (kept → IsEmpty o.disk) → Fits 1 (Knows kept tells o.remote.handed) [] s → s.limit ≡ history_limit → s.files ≡ [] → IsUntouched s → CanDoAll lines → length lines ≤ 65536 → length lines ≤ s.room
-    → HandsOver kept tells s o new e → Writes w0 w1 f0 f1 (start_text 0 0 0) (Err why) → RunsEpoch kept tells plan w0 w1 f0 f1 o new lines e (Err why)
-not_started kept tells plan o new w0 w1 f0 f1 lines s e why empty fits limit files untouched can few room h p = record {
+pub not_started : (kept tells : Type 0) (run : Asked) (o new : Around) (w0 w1 : Option (List ℕ)) (f0 f1 : ℕ) (lines : List Line) (s : State) (e : Epoch) (why : Unwritten)
+    → (kept → IsEmpty o.disk) → Fits 1 (Knows kept tells o.remote.handed) [] s → s.limit ≡ history_limit → s.terms ≡ terms_of run → s.files ≡ [] → IsUntouched s → CanDoAll lines → length lines ≤ 65536 → length lines ≤ s.room
+    → HandsOver kept tells s o new e → Writes w0 w1 f0 f1 (start_text 0 0 0) (Err why) → RunsEpoch kept tells run w0 w1 f0 f1 o new lines e (Err why)
+not_started kept tells run o new w0 w1 f0 f1 lines s e why empty fits limit terms files untouched can few room h p = record {
   events = [];
-  did = front_left kept tells plan o new (now s w0 f0 o) lines lines (maker_at 1 o.moment) [] e empty
-      (none_gone kept tells plan o o w0 f0 lines (maker_at 1 o.moment) s refl (omega arith) refl refl fits limit files untouched can few room) h;
+  did = front_left kept tells run o new (now s w0 f0 o) lines lines (maker_at 1 o.moment) [] e empty
+      (none_gone kept tells run o o w0 f0 lines (maker_at 1 o.moment) s refl (omega arith) refl refl fits limit terms files untouched can few room) h;
   all = tt;
-  text = start_unwritten w0 w1 f0 f1 (start_text 0 0 0) [] (end_block e) (end_text 0) why p;
+  text = start_unwritten w0 w1 f0 f1 (start_text 0 0 0) [] (end_block run.write_back e) (end_text 0) why p;
   told = inl refl;
 }

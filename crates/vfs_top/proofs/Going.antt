@@ -18,11 +18,14 @@ use Rattle.session_script.specs.declared.call.CallLine.{CallLine}
 use Rattle.session_text.specs.declared.reply.Record.{Record}
 use Rattle.session_text.specs.declared.reply.Reply.{Reply}
 use Rattle.downloaders.specs.declared.Plan.{Plan}
+use Rattle.run_words.specs.Words.{Asked}
 use Rattle.sparse_item.specs.Item.{Item}
+use Rattle.writeback_queue.specs.declared.entry.QueueTerms.{QueueTerms}
 use Rattle.one_session.specs.Causes.{CauseOf, HandsBig, HasRemoteCause, IsUnshown, ends_gone}
+use Rattle.one_session.specs.Queued.{queue_step}
 use Rattle.one_session.specs.Served.{Served}
 use Rattle.one_session.specs.State.{State, Step, item_in}
-use Rattle.one_session.specs.Steps.{AreSteps, IsOpenCause, TakesStep, Touches}
+use Rattle.one_session.specs.Steps.{AreSteps, IsOpenCause, TakesStep, Touches, queue_after}
 use Rattle.one_session.specs.Tree.{shown}
 use Rattle.vfs_top.specs.Around.{Around}
 use Rattle.vfs_top.specs.Event.{Event, Called, calls_of, line_of}
@@ -154,11 +157,21 @@ steps_more plan first x y d served s t f g k steps =
     step : Step
     step = record { before = s.items; after = t.items }
 
+-- and it entered in the queue what it was to enter
+entered_more : (d : Served) (served : List Served) (write_back : ℕ) (s t : State) → t.queue ≡ s.queue ++ queue_step s.terms.write_back d.by d.line.call d.done (record { before = s.items; after = t.items }) → s.terms.write_back ≡ write_back
+    → t.steps ≡ s.steps ++ record { before = s.items; after = t.items } ∷ [] → s.queue ≡ queue_after write_back served (reverse s.steps) → t.queue ≡ queue_after write_back (d ∷ served) (reverse t.steps)
+entered_more d served write_back s t grew same added entered =
+    grew ∙ ap (λ q. q ++ queue_step s.terms.write_back d.by d.line.call d.done step) entered ∙ ap (λ n. queue_after write_back served (reverse s.steps) ++ queue_step n d.by d.line.call d.done step) same
+    ∙ ap (queue_after write_back (d ∷ served)) (sym (ap reverse added ∙ reverse-append s.steps (step ∷ [])))
+  where
+    step : Step
+    step = record { before = s.items; after = t.items }
+
 -- a call more was made
-pub call_made : (kept tells : Type 0) (plan : Plan) (start : Around) (a b : Now) (lines left : List Line) (n : ℕ) (c : CallLine) (by : By) (events : List Event)
-    → IsGoing kept tells plan start lines (record { line = n; what = what.Call c } ∷ left) by events a → (x : MakesCall kept tells plan by c a b)
-    → IsGoing kept tells plan start lines left by (Called (record { by = by; line = c; done = x.done }) ∷ events) b
-call_made kept tells plan start a b lines left n c by events p x =
+pub call_made : (kept tells : Type 0) (run : Asked) (start : Around) (a b : Now) (lines left : List Line) (n : ℕ) (c : CallLine) (by : By) (events : List Event)
+    → IsGoing kept tells run start lines (record { line = n; what = what.Call c } ∷ left) by events a → (x : MakesCall kept tells run by c a b)
+    → IsGoing kept tells run start lines left by (Called (record { by = by; line = c; done = x.done }) ∷ events) b
+call_made kept tells run start a b lines left n c by events p x =
     let d : Served = record { by = by; line = c; done = x.done } in
     let e : line_of (Called d) ≡ record { line = n; what = what.Call c } = ap (λ n. record { line = n; what = what.Call c }) (sym p.can.0.0) in
     record {
@@ -172,12 +185,14 @@ call_made kept tells plan start a b lines left n c by events p x =
       fits = x.serves.fits (calls_of events) p.fits;
       given = x.given;
       limit = x.serves.limit ∙ p.limit;
+      terms = x.queue.0 ∙ p.terms;
+      entered = entered_more d (calls_of events) run.write_back a.session b.session x.queue.1 (ap (λ (t : QueueTerms). t.write_back) p.terms) x.step.added p.entered;
       causes = (
         later_cause c.call x.done b.session.tree start.remote a.around.remote b.around.remote p.more p.remote_faults p.changes p.handed x.cause,
         subst (λ tree. AllByRecursion (λ (d : Served). HasRemoteCause d.line.call d.done tree start.remote b.around.remote) (calls_of events)) (sym x.serves.grew)
             (causes_later (calls_of events) a.session.tree x.serves.more start.remote a.around.remote b.around.remote x.cause.more p.causes x.cause.faults x.cause.changes x.cause.handed),
       );
-      steps = steps_more plan start.disk.faults a.around.disk.faults b.around.disk.faults d (calls_of events) a.session b.session p.disk_faults x.disk x.step p.steps;
+      steps = steps_more run.plan start.disk.faults a.around.disk.faults b.around.disk.faults d (calls_of events) a.session b.session p.disk_faults x.disk x.step p.steps;
       disk_faults = omega (arith, p.disk_faults, x.disk);
       remote_faults = omega (arith, p.remote_faults, x.cause.faults);
       changes = omega (arith, p.changes, x.cause.changes);

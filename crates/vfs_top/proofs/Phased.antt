@@ -22,7 +22,7 @@ use Rattle.one_session.specs.Matching.{IsStep, entries_of}
 use Rattle.one_session.specs.Served.{Served, TreeMatches, in_tree_of, tree_place}
 use Rattle.one_session.specs.State.{History}
 use Rattle.one_session.specs.Whole.{IsWhole, IsWholeFile}
-use Rattle.vfs_top.specs.Event.{Event, Called, Joined, AreTimely, calls_of, phase_after}
+use Rattle.vfs_top.specs.Event.{Event, Called, Paused, AreTimely, calls_of, phase_after}
 use Rattle.vfs_top.specs.Phases.{AreByPhase, IsByPhase}
 
 all_append : {A : Type 0} (P : A → Type 0) (xs ys : List A) → AllByRecursion P xs → AllByRecursion P ys → AllByRecursion P (xs ++ ys)
@@ -117,7 +117,7 @@ record IsTree (n : ℕ) (mine : List TreeEntry) : Type 0 where
 tree_phases : (first : ℕ) (files : List History) (history : List TreeEntry) (events : List Event) (mine : List TreeEntry)
     → AreTimely first events → TreeMatches 1 files history (calls_of events) mine → IsTree (phase_after events) mine
 tree_phases first files history [] mine t m = subst (IsTree 1) (sym m) (record { ordered = tt; most = tt })
-tree_phases first files history (Joined n moment ∷ older) mine t m =
+tree_phases first files history (Paused n pause moment ∷ older) mine t m =
     let p = tree_phases first files history older mine t.1 m in
     record { ordered = p.ordered; most = all_mono (λ (e : TreeEntry). tree_phase e ≤ phase_after older) (λ (e : TreeEntry). tree_phase e ≤ phase_after older + 1) (λ e q. omega (arith, q)) mine p.most }
 tree_phases first files history (Called d ∷ older) mine t m =

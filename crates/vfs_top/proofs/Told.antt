@@ -3,12 +3,12 @@ use Rattle.std.proofs.Common.{◌≡◌, ◌∙◌, ◌≤◌, ◌++◌, ℕ, Li
 use Rattle.std.proofs.lemmas.Grind.{reverse_onto}
 use Rattle.std.proofs.lemmas.List.{drop-append-le, length-map, length-reverse, map-append}
 use Rattle.std.proofs.Math.Seq.{drop-length, take-length}
-use Rattle.session_text.specs.Lines.{join_text, shown_text}
+use Rattle.session_text.specs.Lines.{shown_text}
 use Rattle.session_text.specs.declared.reply.Record.{Record}
 use Rattle.session_text.specs.declared.shown.Shown.{Shown}
 use Rattle.session_text.specs.declared.shown.Shown.TheVariants.{Replied}
 use Rattle.one_session.specs.Served.{Served}
-use Rattle.vfs_top.specs.Event.{Event, Called, Joined, before_last, calls_of, earlier, record_of, shown_of}
+use Rattle.vfs_top.specs.Event.{Event, Called, Paused, before_last, calls_of, earlier, pause_shown, record_of, shown_of}
 use Rattle.vfs_top.specs.Transcript.{shown_texts, texts_of}
 
 pub texts_append : (xs ys : List Shown) → shown_texts (xs ++ ys) ≡ shown_texts xs ++ shown_texts ys
@@ -37,7 +37,7 @@ count_records served = length-map (reverse served) record_of ∙ length-reverse 
 earlier_fewer : (events : List Event) → length (calls_of (earlier events)) ≤ length (calls_of events)
 earlier_fewer [] = omega arith
 earlier_fewer (Called d ∷ older) = omega (arith, earlier_fewer older)
-earlier_fewer (Joined n moment ∷ older) = omega arith
+earlier_fewer (Paused n pause moment ∷ older) = omega arith
 
 -- the replies of the phase that is under way
 abbrev pub pending : List Event → List ℕ
@@ -59,8 +59,8 @@ pending_more d older =
 
 pub told_and_pending : (events : List Event) → texts_of events ≡ texts_of (earlier events) ++ pending events
 told_and_pending [] = refl
-told_and_pending (Joined n moment ∷ older) =
-    sym (ap (λ l. texts_of (Joined n moment ∷ older) ++ replies l) (all_dropped (calls_of older)) ∙ append-nil (texts_of (Joined n moment ∷ older)))
+told_and_pending (Paused n pause moment ∷ older) =
+    sym (ap (λ l. texts_of (Paused n pause moment ∷ older) ++ replies l) (all_dropped (calls_of older)) ∙ append-nil (texts_of (Paused n pause moment ∷ older)))
 told_and_pending (Called d ∷ older) =
     text_more (Called d) older ∙ ap (λ l. l ++ shown_text (Replied d.done)) (told_and_pending older)
     ∙ append_assoc (texts_of (earlier older)) (pending older) (shown_text (Replied d.done)) ∙ ap (λ l. texts_of (earlier older) ++ l) (sym (pending_more d older))
@@ -69,9 +69,9 @@ told_and_pending (Called d ∷ older) =
 pub last_told : (events : List Event) → (more : List ℕ) × (texts_of (earlier events) ≡ texts_of (before_last events) ++ more)
 last_told [] = ([], refl)
 last_told (Called d ∷ older) = ([], sym (append-nil (texts_of (earlier older))))
-last_told (Joined n moment ∷ older) = (
-  pending older ++ join_text n,
-  text_more (Joined n moment) older ∙ ap (λ l. l ++ join_text n) (told_and_pending older) ∙ append_assoc (texts_of (earlier older)) (pending older) (join_text n),
+last_told (Paused n pause moment ∷ older) = let text = shown_text (pause_shown n pause moment) in (
+  pending older ++ text,
+  text_more (Paused n pause moment) older ∙ ap (λ l. l ++ text) (told_and_pending older) ∙ append_assoc (texts_of (earlier older)) (pending older) text,
 )
 
 -- what stands from a place to the end

@@ -4,7 +4,6 @@ use Rattle.std.specs.Io.KnownBytes.{Appends}
 use Rattle.vfs_outside.specs.Causes.{AppendsFront, Rose}
 use Rattle.vfs_outside.specs.Image.{meta_in}
 use Rattle.vfs_outside.specs.Slot.{image}
-use Rattle.downloaders.specs.declared.Plan.{Plan}
 use Rattle.run_words.specs.Words.{Asked}
 use Rattle.session_script.specs.declared.call.Line.{Line}
 use Rattle.session_text.specs.Lines.{end_text, start_text}
@@ -33,17 +32,17 @@ abbrev pub told : Option (List ℕ) → ℕ → Option (List ℕ) → ℕ → Ar
 told left source_faults written sink_faults around =
     record { left = left; source_faults = source_faults; written = written; sink_faults = sink_faults; around = around }
 
--- what is printed of a run with one epoch, in which these events came about
-abbrev pub printed : List Event → Epoch → List ℕ
-printed events e = transcript ((shown_in events, e) ∷ [])
+-- what is printed of a run that was asked for this, with one epoch, in which these events came about
+abbrev pub printed : Asked → List Event → Epoch → List ℕ
+printed run events e = transcript run.write_back ((shown_in events, e) ∷ [])
 
 -- All lines were done in one epoch, and the whole transcript was written.
-pub record DoesAll (kept tells : Type 0) (plan : Plan) (written written' : Option (List ℕ)) (old new : Around) (script : List Line) (epochs : List Epoch) : Type 0 where
+pub record DoesAll (kept tells : Type 0) (run : Asked) (written written' : Option (List ℕ)) (old new : Around) (script : List Line) (epochs : List Epoch) : Type 0 where
   pub epoch : Epoch
   pub only : epochs ≡ epoch ∷ []
   pub events : List Event
-  pub did : IsEpoch kept tells plan old new script events epoch
-  pub text : Appends written written' (printed events epoch)
+  pub did : IsEpoch kept tells run old new script events epoch
+  pub text : Appends written written' (printed run events epoch)
 
 -- nothing was done, or the start was written and all that was shown before the last phase in which something was done
 abbrev pub WasTold : Option (List ℕ) → Option (List ℕ) → List Event → Type 0
@@ -51,29 +50,29 @@ WasTold written written' events = (events ≡ []) ⊎ AppendsPast written writte
 
 -- A front of the lines was done, and a front of their transcript was written. A phase was begun only once all was written that
 -- those before it showed.
-pub record DoesSome (kept tells : Type 0) (plan : Plan) (written written' : Option (List ℕ)) (old new : Around) (script : List Line) (epochs : List Epoch) : Type 0 where
+pub record DoesSome (kept tells : Type 0) (run : Asked) (written written' : Option (List ℕ)) (old new : Around) (script : List Line) (epochs : List Epoch) : Type 0 where
   pub epoch : Epoch
   pub only : epochs ≡ epoch ∷ []
   pub events : List Event
-  pub did : DoesFront kept tells plan old new script events epoch
-  pub text : AppendsFront written written' (printed events epoch)
+  pub did : DoesFront kept tells run old new script events epoch
+  pub text : AppendsFront written written' (printed run events epoch)
   pub told : WasTold written written' events
 
 -- Once the start was written: what the lines showed was written, and the end, or not. Nothing was done in a phase before all
 -- was written that those before it showed.
-pub record RunsLines (kept tells : Type 0) (plan : Plan) (written written' : Option (List ℕ)) (faults faults' : ℕ) (old new : Around) (script : List Line) (e : Epoch) (result : Result (Unit {0}) Unwritten) : Type 0 where
+pub record RunsLines (kept tells : Type 0) (run : Asked) (written written' : Option (List ℕ)) (faults faults' : ℕ) (old new : Around) (script : List Line) (e : Epoch) (result : Result (Unit {0}) Unwritten) : Type 0 where
   pub events : List Event
-  pub did : DoesFront kept tells plan old new script events e
-  pub all : OnOk result (IsEpoch kept tells plan old new script events e)
-  pub text : Writes written written' faults faults' (texts_of events ++ (end_block e ++ end_text 0)) result
+  pub did : DoesFront kept tells run old new script events e
+  pub all : OnOk result (IsEpoch kept tells run old new script events e)
+  pub text : Writes written written' faults faults' (texts_of events ++ (end_block run.write_back e ++ end_text 0)) result
   pub told : AppendsPast written written' (texts_of (before_last events))
 
 -- an epoch of these lines was run, and written or not
-pub record RunsEpoch (kept tells : Type 0) (plan : Plan) (written written' : Option (List ℕ)) (faults faults' : ℕ) (old new : Around) (script : List Line) (e : Epoch) (result : Result (Unit {0}) Unwritten) : Type 0 where
+pub record RunsEpoch (kept tells : Type 0) (run : Asked) (written written' : Option (List ℕ)) (faults faults' : ℕ) (old new : Around) (script : List Line) (e : Epoch) (result : Result (Unit {0}) Unwritten) : Type 0 where
   pub events : List Event
-  pub did : DoesFront kept tells plan old new script events e
-  pub all : OnOk result (IsEpoch kept tells plan old new script events e)
-  pub text : Writes written written' faults faults' (printed events e) result
+  pub did : DoesFront kept tells run old new script events e
+  pub all : OnOk result (IsEpoch kept tells run old new script events e)
+  pub text : Writes written written' faults faults' (printed run events e) result
   pub told : WasTold written written' events
 
 -- nothing was done or written
@@ -87,7 +86,7 @@ pub record Done (kept tells : Type 0) (words : List (List ℕ)) (old new : Told)
   pub asked : Asked
   pub script : List Line
   pub ready : IsReady words old.left new.left asked script
-  pub all : DoesAll kept tells asked.plan old.written new.written old.around new.around script epochs
+  pub all : DoesAll kept tells asked old.written new.written old.around new.around script epochs
 
 -- why no line is done once the script was read: the remote or the disk couldn't be attached, or a slot has metadata
 abbrev pub StartCause : Type 0 → Around → Around → Stop → Type 0
@@ -133,7 +132,7 @@ pub record BreaksRun (kept tells : Type 0) (words : List (List ℕ)) (old new : 
   pub asked : Asked
   pub script : List Line
   pub ready : IsReady words old.left new.left asked script
-  pub some : DoesSome kept tells asked.plan old.written new.written old.around new.around script epochs
+  pub some : DoesSome kept tells asked old.written new.written old.around new.around script epochs
 
 -- a front of what would have been written was written, and each reply in it stands in the epochs
 abbrev pub Breaks : Type 0 → Type 0 → List (List ℕ) → Told → Told → List Epoch → Type 0
@@ -168,11 +167,11 @@ pub record BreaksStart (kept : Type 0) (written written' : Option (List ℕ)) (o
   pub still : IsStill kept old.disk new.disk
 
 -- a front of what would have been written was written, once the script was read
-abbrev pub BreaksStarted : Type 0 → Type 0 → Plan → Option (List ℕ) → Option (List ℕ) → Around → Around → List Line → List Epoch → Type 0
-BreaksStarted kept tells plan written written' old new script epochs =
-    BreaksStart kept written written' old new epochs ⊎ DoesSome kept tells plan written written' old new script epochs
+abbrev pub BreaksStarted : Type 0 → Type 0 → Asked → Option (List ℕ) → Option (List ℕ) → Around → Around → List Line → List Epoch → Type 0
+BreaksStarted kept tells run written written' old new script epochs =
+    BreaksStart kept written written' old new epochs ⊎ DoesSome kept tells run written written' old new script epochs
 
 -- memory was wanting, once the script was read
-abbrev pub StarvesStarted : Type 0 → Type 0 → Plan → Option (List ℕ) → Option (List ℕ) → Around → Around → List Line → List Epoch → Type 0
-StarvesStarted kept tells plan written written' old new script epochs =
-    DoesNothing kept written written' old new epochs ⊎ BreaksStarted kept tells plan written written' old new script epochs
+abbrev pub StarvesStarted : Type 0 → Type 0 → Asked → Option (List ℕ) → Option (List ℕ) → Around → Around → List Line → List Epoch → Type 0
+StarvesStarted kept tells run written written' old new script epochs =
+    DoesNothing kept written written' old new epochs ⊎ BreaksStarted kept tells run written written' old new script epochs

@@ -1,35 +1,37 @@
 -- How an epoch goes on from line to line.
-use Rattle.std.specs.Prelude.{◌≡◌, ◌≤◌, ℕ, ◌+◌, Option, List, [], ◌∷◌, ◌++◌, drop, length, map, reverse, Result, Ok, OnOk}
+use Rattle.std.specs.Prelude.{◌≡◌, ◌≤◌, ℕ, ◌+◌, ◌^◌, Option, List, [], ◌∷◌, ◌++◌, drop, length, map, reverse, Result, Ok, OnOk}
 use Rattle.std.specs.List.{AllByRecursion}
 use Rattle.std.specs.Io.KnownBytes.{Appends}
 use Rattle.vfs_names.specs.declared.fingerprint.Fingerprint.{Fingerprint}
 use Rattle.vfs_names.specs.declared.who.By.{By}
-use Rattle.downloaders.specs.declared.Plan.{Plan}
+use Rattle.run_words.specs.Words.{Asked}
 use Rattle.session_script.specs.declared.call.CallLine.{CallLine}
 use Rattle.session_script.specs.declared.call.Line.{Line}
 use Rattle.session_script.specs.declared.call.What.{What}
 use Rattle.session_script.specs.declared.call.What.TheVariants as what
 use Rattle.session_text.specs.declared.reply.Record.{Record}
 use Rattle.session_text.specs.declared.shown.Shown.TheVariants.{Replied}
-use Rattle.session_text.specs.Lines.{join_text}
+use Rattle.session_text.specs.Lines.{shown_text}
 use Rattle.one_session.specs.Causes.{AreGiven, HasRemoteCause}
 use Rattle.one_session.specs.Served.{Fits, IsServable, Knows, Served, Serves}
 use Rattle.one_session.specs.State.{State}
-use Rattle.one_session.specs.Steps.{AreSteps, TakesStep}
+use Rattle.one_session.specs.Steps.{AreSteps, QueuesStep, TakesStep, queue_after}
 use Rattle.one_session.specs.Views.{given_all}
 use Rattle.one_session.specs.Whole.{IsUpTo}
 use Rattle.vfs_top.specs.Around.{Around}
-use Rattle.vfs_top.specs.Event.{Event, AreTimely, before_last, calls_of, earlier, line_of, maker_at, moment_after, phase_after}
-use Rattle.vfs_top.specs.Phases.{history_limit}
+use Rattle.vfs_top.specs.Event.{Event, AreTimely, before_last, calls_of, earlier, line_of, maker_at, moment_after, pause_shown, phase_after, Moves}
+use Rattle.vfs_top.specs.Phases.{history_limit, terms_of}
 use Rattle.vfs_top.specs.Transcript.{shown_texts, texts_of}
 use Rattle.vfs_top.specs.Writing.{AppendsPast, Writes}
+use Rattle.vfs_top.specs.declared.phase.Pause.{Pause}
+use Rattle.vfs_top.specs.declared.phase.Pause.TheVariants.{Join, Advance}
 use Rattle.vfs_top.specs.declared.phase.Phase.{Phase}
 use Rattle.vfs_top.specs.declared.write.Unwritten.{Unwritten}
 
--- line n asks for a call that the first session can be served, or ends the phase
+-- line n asks for a call that the first session can be served, or ends the phase and maybe moves the clock
 abbrev pub CanDo : ℕ → What → Type 0
 CanDo n (what.Call c) = (n ≡ c.line) × (c.session ≡ 1) × IsServable c.call
-CanDo n (what.Advance ms) = ⊥
+CanDo n (what.Advance ms) = Unit {0}
 CanDo n what.Tick = ⊥
 CanDo n what.Clean = ⊥
 CanDo n what.Poll = ⊥
@@ -40,10 +42,11 @@ abbrev pub CanDoAll : List Line → Type 0
 CanDoAll [] = Unit {0}
 CanDoAll (line ∷ lines) = CanDo line.line line.what × CanDoAll lines
 
--- there is no file yet, and no call was made
+-- there is no file yet, no call was made, and nothing was entered in the queue
 pub record IsUntouched (s : State) : Type 0 where
   pub items : s.items ≡ []
   pub steps : s.steps ≡ []
+  pub queue : s.queue ≡ []
 
 -- what a run tells at a moment: its session, what the sink holds, how often it failed, and what the other things outside tell
 pub record Now : Type 0 where
@@ -56,11 +59,12 @@ abbrev pub now : State → Option (List ℕ) → ℕ → Around → Now
 now session written faults around = record { session = session; written = written; faults = faults; around = around }
 
 -- a call was served, and nothing was written
-pub record MakesCall (kept tells : Type 0) (plan : Plan) (by : By) (c : CallLine) (a b : Now) : Type 0 where
+pub record MakesCall (kept tells : Type 0) (run : Asked) (by : By) (c : CallLine) (a b : Now) : Type 0 where
   pub done : Record
   pub serves : Serves 1 kept tells a.around.remote.handed b.around.remote.handed by c done a.session b.session
   pub cause : HasRemoteCause c.call done b.session.tree a.around.remote b.around.remote
-  pub step : TakesStep plan a.around.disk.faults b.around.disk.faults c.call done a.session b.session
+  pub step : TakesStep run.plan a.around.disk.faults b.around.disk.faults c.call done a.session b.session
+  pub queue : QueuesStep by c.call done a.session b.session
   pub disk : a.around.disk.faults ≤ b.around.disk.faults
   pub given : AreGiven tells b.around.remote.handed (given_all b.session.items)
   pub later : IsUpTo by b.session.files
@@ -69,30 +73,32 @@ pub record MakesCall (kept tells : Type 0) (plan : Plan) (by : By) (c : CallLine
   pub faults : b.faults ≡ a.faults
   pub moment : b.around.moment ≡ a.around.moment
 
--- Line n ended a phase. What its calls showed and the line's own text were written; where that was done the next phase begins
--- at the clock's answer.
-pub record EndsPhase (n : ℕ) (p q : Phase) (a b : Now) (result : Result (Unit {0}) Unwritten) : Type 0 where
-  pub text : Writes a.written b.written a.faults b.faults (shown_texts (map Replied (drop p.before a.session.records)) ++ join_text n) result
+-- Line n ended a phase so. What its calls showed and the line's own text were written; where that was done the next phase
+-- begins at the clock's answer.
+pub record EndsPhase (n : ℕ) (pause : Pause) (p q : Phase) (a b : Now) (result : Result (Unit {0}) Unwritten) : Type 0 where
+  pub text : Writes a.written b.written a.faults b.faults
+      (shown_texts (map Replied (drop p.before a.session.records)) ++ shown_text (pause_shown n pause b.around.moment)) result
   pub by : OnOk result (q.by ≡ maker_at (p.by.who.phase + 1) b.around.moment)
   pub before : OnOk result (q.before ≡ length a.session.records)
-  pub moment : a.around.moment ≤ b.around.moment
+  pub moment : Moves pause a.around.moment b.around.moment
+  pub most : b.around.moment ≤ 2 ^ 62
   pub session : b.session ≡ a.session
   pub remote : b.around.remote ≡ a.around.remote
   pub disk : b.around.disk ≡ a.around.disk
 
 -- what is asked for was done
-abbrev pub DoesLine : Type 0 → Type 0 → Plan → ℕ → What → Phase → Phase → Now → Now → Result (Unit {0}) Unwritten → Type 0
-DoesLine kept tells plan n (what.Call c) p q a b result = MakesCall kept tells plan p.by c a b × (q ≡ p) × (result ≡ Ok tt)
-DoesLine kept tells plan n (what.Advance ms) p q a b result = ⊥
-DoesLine kept tells plan n what.Tick p q a b result = ⊥
-DoesLine kept tells plan n what.Clean p q a b result = ⊥
-DoesLine kept tells plan n what.Poll p q a b result = ⊥
-DoesLine kept tells plan n what.Join p q a b result = EndsPhase n p q a b result
-DoesLine kept tells plan n what.Restart p q a b result = ⊥
+abbrev pub DoesLine : Type 0 → Type 0 → Asked → ℕ → What → Phase → Phase → Now → Now → Result (Unit {0}) Unwritten → Type 0
+DoesLine kept tells run n (what.Call c) p q a b result = MakesCall kept tells run p.by c a b × (q ≡ p) × (result ≡ Ok tt)
+DoesLine kept tells run n (what.Advance ms) p q a b result = EndsPhase n (Advance ms) p q a b result
+DoesLine kept tells run n what.Tick p q a b result = ⊥
+DoesLine kept tells run n what.Clean p q a b result = ⊥
+DoesLine kept tells run n what.Poll p q a b result = ⊥
+DoesLine kept tells run n what.Join p q a b result = EndsPhase n Join p q a b result
+DoesLine kept tells run n what.Restart p q a b result = ⊥
 
 -- An epoch so far: these events came about, the newest first, some lines are left, and there is room for their records. No
 -- entry is of a later moment than the phase that is under way.
-pub record IsGoing (kept tells : Type 0) (plan : Plan) (start : Around) (lines left : List Line) (by : By) (events : List Event) (a : Now) : Type 0 where
+pub record IsGoing (kept tells : Type 0) (run : Asked) (start : Around) (lines left : List Line) (by : By) (events : List Event) (a : Now) : Type 0 where
   pub asked : map line_of (reverse events) ++ left ≡ lines
   pub first : ℕ
   pub no_sooner : start.moment ≤ first
@@ -103,8 +109,10 @@ pub record IsGoing (kept tells : Type 0) (plan : Plan) (start : Around) (lines l
   pub fits : Fits 1 (Knows kept tells a.around.remote.handed) (calls_of events) a.session
   pub given : AreGiven tells a.around.remote.handed (given_all a.session.items)
   pub limit : a.session.limit ≡ history_limit
+  pub terms : a.session.terms ≡ terms_of run
+  pub entered : a.session.queue ≡ queue_after run.write_back (calls_of events) (reverse a.session.steps)
   pub causes : AllByRecursion (λ (d : Served). HasRemoteCause d.line.call d.done a.session.tree start.remote a.around.remote) (calls_of events)
-  pub steps : AreSteps plan start.disk.faults a.around.disk.faults a.session.items (calls_of events) (reverse a.session.steps)
+  pub steps : AreSteps run.plan start.disk.faults a.around.disk.faults a.session.items (calls_of events) (reverse a.session.steps)
   pub disk_faults : start.disk.faults ≤ a.around.disk.faults
   pub remote_faults : start.remote.faults ≤ a.around.remote.faults
   pub changes : start.remote.changes ≤ a.around.remote.changes
@@ -121,18 +129,19 @@ pub record IsTold (written : Option (List ℕ)) (first : ℕ) (p : Phase) (event
   pub before : p.before ≡ length (calls_of (earlier events))
   pub inside : p.before ≤ length a.session.records
 
--- both
-pub record IsUnderWay (kept tells : Type 0) (plan : Plan) (start : Now) (lines left : List Line) (p : Phase) (a : Now) : Type 0 where
+-- both; the clock told the moment of the phase
+pub record IsUnderWay (kept tells : Type 0) (run : Asked) (start : Now) (lines left : List Line) (p : Phase) (a : Now) : Type 0 where
   pub events : List Event
-  pub going : IsGoing kept tells plan start.around lines left p.by events a
+  pub most : a.around.moment ≤ 2 ^ 62
+  pub going : IsGoing kept tells run start.around lines left p.by events a
   pub told : IsTold start.written start.faults p events a
 
 -- the lines were done, and what they showed was written; or a front of them, where not all that these showed was written
-pub record HasGone (kept tells : Type 0) (plan : Plan) (lines : List Line) (start a : Now) (result : Result (Unit {0}) Unwritten) : Type 0 where
+pub record HasGone (kept tells : Type 0) (run : Asked) (lines : List Line) (start a : Now) (result : Result (Unit {0}) Unwritten) : Type 0 where
   pub by : By
   pub left : List Line
   pub events : List Event
-  pub going : IsGoing kept tells plan start.around lines left by events a
+  pub going : IsGoing kept tells run start.around lines left by events a
   pub all : OnOk result (left ≡ [])
   pub text : Writes start.written a.written start.faults a.faults (texts_of events) result
   pub most : AppendsPast start.written a.written (texts_of (before_last events))

@@ -4,17 +4,23 @@ use Rattle.std.specs.List.{AllByRecursion}
 use Rattle.vfs_outside.specs.declared.tree.TreeEntry.{TreeEntry}
 use Rattle.item_core.specs.declared.entry.Entry.{Entry}
 use Rattle.session_script.specs.declared.call.Line.{Line}
-use Rattle.downloaders.specs.declared.Plan.{Plan}
+use Rattle.run_words.specs.Words.{Asked}
 use Rattle.sparse_item.specs.Item.{Item}
+use Rattle.writeback_queue.specs.declared.entry.QueueTerms.{QueueTerms}
 use Rattle.one_session.specs.Causes.{HasRemoteCause}
+use Rattle.one_session.specs.Queued.{IsQueued, owed_in}
 use Rattle.one_session.specs.Served.{IsServed, Knows, Served}
 use Rattle.one_session.specs.Slots.{ImagesStand}
 use Rattle.one_session.specs.State.{History}
-use Rattle.one_session.specs.Steps.{AreSteps}
+use Rattle.one_session.specs.Steps.{AreSteps, queue_after}
 use Rattle.one_session.specs.Whole.{IsWhole}
 use Rattle.vfs_top.specs.Around.{Around, IsEmpty}
 use Rattle.vfs_top.specs.Epoch.{Epoch}
 use Rattle.vfs_top.specs.Event.{Event, AreTimely, calls_of, line_of, moment_after, record_of}
+
+-- what the queue keeps to, as it was asked for
+abbrev pub terms_of : Asked → QueueTerms
+terms_of asked = record { write_back = asked.write_back; transfers = asked.transfers }
 
 -- the most places that a history has
 abbrev pub history_limit : ℕ
@@ -31,13 +37,15 @@ pub record AreByPhase (tree : List TreeEntry) (files : List History) : Type 0 wh
   pub in_files : AllByRecursion (λ (file : History). IsByPhase (λ (e : Entry). e.by.who.phase) file.entries) files
 
 -- What an epoch of these lines left over a cache that was empty, in which these events came about, the newest first: they are those of the lines, calls
--- of the first session and the joins between its phases; the calls of a phase were made at one moment, no phase's moment is less
+-- of the first session, and what stands between its phases; the calls of a phase were made at one moment, no phase's moment is less
 -- than the one before it, the first phase's isn't less than the clock's answer before, and the last phase's is its answer after.
 -- The records and the histories are those of the calls, by the contents that hold what the remote handed out; the histories
 -- go phase by phase. A refusal for the remote has its cause; each call did to the files, and asked of the objects behind them
--- by this plan, what `Touches` says, and a refusal for the disk or for such an object has its cause. Each file is given back to
--- its slot, and the image there, after any number of the calls on it, stands for what was made of the file by then.
-pub record IsEpoch (kept tells : Type 0) (plan : Plan) (old new : Around) (lines : List Line) (events : List Event) (e : Epoch) : Type 0 where
+-- by the plan that was asked for, what `Touches` says, and a refusal for the disk or for such an object has its cause. The
+-- queue's history is what the calls entered; it is legal, and its members are just the files that wait for an upload, each due
+-- the write-back time after it was entered. Each file is given back to its slot, and the image there, after any number of the
+-- calls on it, stands for what was made of the file by then.
+pub record IsEpoch (kept tells : Type 0) (run : Asked) (old new : Around) (lines : List Line) (events : List Event) (e : Epoch) : Type 0 where
   pub empty : kept → IsEmpty old.disk
   pub asked : map line_of (reverse events) ≡ lines
   pub first : ℕ
@@ -47,16 +55,18 @@ pub record IsEpoch (kept tells : Type 0) (plan : Plan) (old new : Around) (lines
   pub recorded : e.records ≡ map record_of (reverse (calls_of events))
   pub causes : AllByRecursion (λ (d : Served). HasRemoteCause d.line.call d.done e.tree old.remote new.remote) (calls_of events)
   pub left : List Item
-  pub steps : AreSteps plan old.disk.faults new.disk.faults left (calls_of events) (reverse e.steps)
+  pub steps : AreSteps run.plan old.disk.faults new.disk.faults left (calls_of events) (reverse e.steps)
   pub matching : IsServed 1 (Knows kept tells new.remote.handed) history_limit (calls_of events) e.tree e.files
   pub whole : IsWhole 1 e.tree e.files
   pub phases : AreByPhase e.tree e.files
+  pub entered : e.queue ≡ queue_after run.write_back (calls_of events) (reverse e.steps)
+  pub queued : IsQueued (terms_of run) (owed_in e.files) e.queue
   pub back : (slot : ℕ) → new.disk.out slot ≡ false
   pub images : kept → ImagesStand tells new.remote.handed new.disk e.files
 
 -- a front of the lines was done
-pub record DoesFront (kept tells : Type 0) (plan : Plan) (old new : Around) (script : List Line) (events : List Event) (e : Epoch) : Type 0 where
+pub record DoesFront (kept tells : Type 0) (run : Asked) (old new : Around) (script : List Line) (events : List Event) (e : Epoch) : Type 0 where
   pub lines : List Line
   pub others : List Line
   pub front : script ≡ lines ++ others
-  pub did : IsEpoch kept tells plan old new lines events e
+  pub did : IsEpoch kept tells run old new lines events e

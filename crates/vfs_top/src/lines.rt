@@ -1,16 +1,17 @@
 ghost use Rattle.std.specs.Prelude.{◌≡◌, ◌≤◌, ◌++◌, ℕ, List, [], length};
 ghost use Rattle.vfs_names.specs.declared.fingerprint.Fingerprint.{Fingerprint};
 ghost use Rattle.downloaders.specs.Rules.{HasChunk};
+ghost use Rattle.run_words.specs.Words.{meaning};
 ghost use Rattle.one_session.specs.Served.{Fits, Knows};
 ghost use Rattle.one_session.specs.Slots.{Lends};
 ghost use Rattle.vfs_top.specs.Around.{around};
 ghost use Rattle.vfs_top.specs.Going.{CanDoAll, HasGone, IsUntouched, now};
-ghost use Rattle.vfs_top.specs.Phases.{history_limit};
+ghost use Rattle.vfs_top.specs.Phases.{history_limit, terms_of};
 
 use crate::phase::{do_line, first_phase};
 use crate::write::{Unwritten, write_replies};
-use downloaders::Plan;
 use one_session::OneSession;
+use run_words::RunWords;
 use session_script::Line;
 use std::alloc::Global;
 use vfs_outside::{CacheDisk, Clock, Gate, Remote, Sink};
@@ -18,7 +19,7 @@ use vfs_outside::{CacheDisk, Clock, Gate, Remote, Sink};
 /// Does the lines in their order, and writes what each phase showed at its end. Where that fails no further line is done.
 pub fn do_lines<K: Sink, R: Remote, D: CacheDisk, C: Clock, G: Gate>(
     alloc: Global,
-    plan: &Plan,
+    run: &RunWords,
     session: &mut OneSession<R::Object, D::File>,
     sink: &mut K,
     remote: &mut R,
@@ -31,13 +32,14 @@ pub fn do_lines<K: Sink, R: Remote, D: CacheDisk, C: Clock, G: Gate>(
     requires new { (handed : List (Fingerprint × List ℕ))
         → Fits 1 (Knows D.File.tells R.Object.tells handed) [] session.old }
     requires limit { session.old.limit ≡ history_limit }
+    requires terms { session.old.terms ≡ terms_of (meaning run.now) }
     requires none { session.old.files ≡ [] }
     requires untouched { IsUntouched session.old }
-    requires chunk { HasChunk plan.now.chunk }
+    requires chunk { HasChunk run.now.plan.chunk }
     requires can { CanDoAll lines.now }
     requires few { length lines.now ≤ 65536 }
     requires room { length lines.now ≤ session.old.room }
-    ensures gone { HasGone D.File.tells R.Object.tells plan.now lines.now
+    ensures gone { HasGone D.File.tells R.Object.tells (meaning run.now) lines.now
         (now session.old (K.written sink.old) (K.faults sink.old)
         (around (C.moment clock.old) (R.outside remote.old) (D.disk disk.old)))
         (now session.new (K.written sink.new) (K.faults sink.new)
@@ -48,7 +50,7 @@ pub fn do_lines<K: Sink, R: Remote, D: CacheDisk, C: Clock, G: Gate>(
     let mut phase = first_phase(clock);
     for line in lines {
         match do_line(
-            alloc, plan, session, sink, remote, disk, clock, &mut phase, line, gate,
+            alloc, run, session, sink, remote, disk, clock, &mut phase, line, gate,
         ) {
             Ok(()) => {}
             Err(why) => return Err(why),

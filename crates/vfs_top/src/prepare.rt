@@ -1,4 +1,4 @@
-ghost use Rattle.std.specs.Prelude.{◌≡◌, ◌≤◌, IfErr, IfOk, length, map, string_bytes};
+ghost use Rattle.std.specs.Prelude.{◌≡◌, ◌≤◌, ◌^◌, IfErr, IfOk, length, map, string_bytes};
 ghost use Rattle.downloaders.specs.Rules.{HasChunk};
 ghost use Rattle.run_words.specs.Words.{meaning};
 ghost use Rattle.vfs_top.specs.Going.{CanDoAll};
@@ -28,6 +28,7 @@ pub fn prepare<'a, S: Source>(
     ensures ready { IfOk result (λ job. IsReady (map string_bytes words.now)
         (S.left source.old) (S.left source.new) (meaning job.run) job.script) }
     ensures chunk { IfOk result (λ job. HasChunk job.run.plan.chunk) }
+    ensures small { IfOk result (λ job. job.run.write_back ≤ 2 ^ 40) }
     ensures can { IfOk result (λ job. CanDoAll job.script) }
     ensures few { IfOk result (λ job. length job.script ≤ 65536) }
     ensures stops { IfErr result (λ stop. Stops (map string_bytes words.now)

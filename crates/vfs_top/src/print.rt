@@ -1,20 +1,18 @@
 ghost use Rattle.std.specs.Prelude.{◌≡◌, ◌++◌, map, IfOk, OnOk};
 ghost use Rattle.session_text.specs.declared.shown.Shown.TheVariants.{Replied};
-ghost use Rattle.session_text.specs.Lines.{end_text, join_text};
+ghost use Rattle.session_text.specs.Lines.{end_text, shown_text};
 ghost use Rattle.vfs_top.specs.Epoch.{epoch_of, history_of};
-ghost use Rattle.vfs_top.specs.Transcript.{end_block, file_text, file_texts, queue_of, shown_texts};
+ghost use Rattle.vfs_top.specs.Event.{pause_shown};
+ghost use Rattle.vfs_top.specs.Transcript.{ending, file_text, file_texts, shown_texts};
 
+use crate::phase::Pause;
 use item_core::plain;
 use one_session::{EpochLog, FileLog};
 use session_text::{
-    Record, print_end, print_file, print_join, print_queue, print_reply, print_tree,
+    Record, print_advance, print_end, print_file, print_join, print_queue, print_reply, print_tree,
 };
-use std::alloc::Global;
 use vfs_names::{Blob, ItemId, NoMemory, QueueRow};
 use vfs_outside::{CacheFile, Object};
-
-/// When a file that waits is due, in milliseconds.
-const DUE: u64 = 5000;
 
 /// Appends the replies of calls.
 pub fn print_replies(out: &mut Blob, records: &[Record]) -> Result<(), NoMemory>
@@ -26,26 +24,35 @@ pub fn print_replies(out: &mut Blob, records: &[Record]) -> Result<(), NoMemory>
     Ok(())
 }
 
-/// Appends the replies of a phase's calls, and that this line ended the phase.
-pub fn print_joined(out: &mut Blob, records: &[Record], line: u32) -> Result<(), NoMemory>
-    ensures { OnOk result (out.new ≡ out.old ++ (shown_texts (map Replied records.now) ++ join_text line)) }
+/// Appends the replies of a phase's calls, and what this line showed that ended the phase.
+pub fn print_paused(
+    out: &mut Blob,
+    records: &[Record],
+    line: u32,
+    pause: Pause,
+    moment: u64,
+) -> Result<(), NoMemory>
+    ensures { OnOk result (out.new ≡ out.old
+        ++ (shown_texts (map Replied records.now) ++ shown_text (pause_shown line pause moment))) }
 {
     print_replies(out, records)?;
-    print_join(out, line)
+    match pause {
+        Pause::Join => print_join(out, line),
+        Pause::Advance(_) => print_advance(out, line, moment),
+    }
 }
 
-/// Appends the histories of an epoch, the queue, and the last line.
+/// Appends the histories of an epoch, these rows of its queue, and the last line.
 pub fn print_ending<O: Object, F: CacheFile>(
-    alloc: Global,
     out: &mut Blob,
     log: &EpochLog<O, F>,
+    rows: &[QueueRow],
 ) -> Result<(), NoMemory>
-    ensures { OnOk result (out.new ≡ out.old ++ (end_block (epoch_of log.now) ++ end_text 0)) }
+    ensures { OnOk result (out.new ≡ out.old ++ (ending (epoch_of log.now) rows.now ++ end_text 0)) }
 {
     print_tree(out, &log.tree)?;
     print_files(out, &log.files)?;
-    let rows = rows_of(alloc, &log.files)?;
-    print_queue(out, &rows)?;
+    print_queue(out, rows)?;
     print_end(out, 0)
 }
 
@@ -74,21 +81,4 @@ fn item_at(index: usize) -> Result<ItemId, NoMemory>
         Ok(number) => Ok(ItemId(number)),
         Err(_) => Err(NoMemory),
     }
-}
-
-/// The files that wait for their upload.
-fn rows_of(alloc: Global, files: &[FileLog]) -> Result<Vec<QueueRow>, NoMemory>
-    ensures { IfOk result (λ rows. rows.items ≡ queue_of (map history_of files.now)) }
-{
-    let mut rows = Vec::new(alloc);
-    for (index, file) in files.iter().enumerate() {
-        if plain::is_owed(&file.entries) {
-            rows.push(QueueRow {
-                item: item_at(index)?,
-                due: DUE,
-                fails: 0,
-            })?;
-        }
-    }
-    Ok(rows)
 }

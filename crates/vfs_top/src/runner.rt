@@ -1,4 +1,4 @@
-ghost use Rattle.std.specs.Prelude.{◌≡◌, ◌≢◌, ◌≤◌, ℕ, [], false, length, map, string_bytes};
+ghost use Rattle.std.specs.Prelude.{◌≡◌, ◌≢◌, ◌≤◌, ◌^◌, ℕ, [], false, length, map, string_bytes};
 ghost use Rattle.std.specs.Io.KnownBytes.{Appends};
 ghost use Rattle.downloaders.specs.Rules.{HasChunk};
 ghost use Rattle.run_words.specs.Words.{meaning};
@@ -161,9 +161,10 @@ fn start<K: Sink, R: Remote, D: CacheDisk, C: Clock, G: Gate>(
 ) -> Kept<R::Object, D::File>
     requires free { (slot : ℕ) → (D.disk disk.old).out slot ≡ false }
     requires chunk { HasChunk run.now.plan.chunk }
+    requires small { run.now.write_back ≤ 2 ^ 40 }
     requires can { CanDoAll lines.now }
     requires few { length lines.now ≤ 65536 }
-    ensures all { result.status ≡ 0 → DoesAll D.File.tells R.Object.tells run.now.plan
+    ensures all { result.status ≡ 0 → DoesAll D.File.tells R.Object.tells (meaning run.now)
         (K.written sink.old) (K.written sink.new)
         (around (C.moment clock.old) (R.outside remote.old) (D.disk disk.old))
         (around (C.moment clock.new) (R.outside remote.new) (D.disk disk.new))
@@ -173,12 +174,12 @@ fn start<K: Sink, R: Remote, D: CacheDisk, C: Clock, G: Gate>(
         (around (C.moment clock.old) (R.outside remote.old) (D.disk disk.old))
         (around (C.moment clock.new) (R.outside remote.new) (D.disk disk.new))
         result.status (map epoch_of result.epochs.items) }
-    ensures some { result.status ≡ 5 → BreaksStarted D.File.tells R.Object.tells run.now.plan
+    ensures some { result.status ≡ 5 → BreaksStarted D.File.tells R.Object.tells (meaning run.now)
         (K.written sink.old) (K.written sink.new)
         (around (C.moment clock.old) (R.outside remote.old) (D.disk disk.old))
         (around (C.moment clock.new) (R.outside remote.new) (D.disk disk.new))
         lines.now (map epoch_of result.epochs.items) }
-    ensures starved { result.status ≡ 8 → StarvesStarted D.File.tells R.Object.tells run.now.plan
+    ensures starved { result.status ≡ 8 → StarvesStarted D.File.tells R.Object.tells (meaning run.now)
         (K.written sink.old) (K.written sink.new)
         (around (C.moment clock.old) (R.outside remote.old) (D.disk disk.old))
         (around (C.moment clock.new) (R.outside remote.new) (D.disk disk.new))
@@ -186,7 +187,7 @@ fn start<K: Sink, R: Remote, D: CacheDisk, C: Clock, G: Gate>(
     ensures rose { result.status ≡ 5 → Rose (K.faults sink.old) (K.faults sink.new) }
 {
     match attach(run, remote, disk) {
-        Ok(()) => run_script(alloc, &run.plan, sink, remote, disk, clock, lines, gate),
+        Ok(()) => run_script(alloc, run, sink, remote, disk, clock, lines, gate),
         Err(Stop::NoMemory) => no_memory(alloc),
         Err(stop) => run_stop(alloc, sink, stop),
     }

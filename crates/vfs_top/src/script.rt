@@ -1,23 +1,25 @@
-ghost use Rattle.std.specs.Prelude.{◌≡◌, ◌≢◌, ◌≤◌, ◌<◌, ◌⊎◌, ◌++◌, ℕ, List, [], ◌∷◌, length, map, vec_capacity, vec_len, IfOk};
+ghost use Rattle.std.specs.Prelude.{◌≡◌, ◌≢◌, ◌≤◌, ◌<◌, ◌^◌, ◌⊎◌, ◌++◌, ℕ, List, [], ◌∷◌, length, map, vec_capacity, vec_len, IfOk};
 ghost use Rattle.vfs_names.specs.declared.fingerprint.Fingerprint.{Fingerprint};
 ghost use Rattle.vfs_outside.specs.Causes.{Rose};
 ghost use Rattle.downloaders.specs.Rules.{HasChunk};
+ghost use Rattle.run_words.specs.Words.{meaning};
 ghost use Rattle.one_session.specs.Served.{Fits, Knows};
 ghost use Rattle.one_session.specs.Slots.{Lends};
 ghost use Rattle.vfs_top.specs.Around.{around};
 ghost use Rattle.vfs_top.specs.Ended.{DoesAll, DoesNothing, DoesSome};
 ghost use Rattle.vfs_top.specs.Epoch.{epoch_of};
 ghost use Rattle.vfs_top.specs.Going.{CanDoAll, IsUntouched};
-ghost use Rattle.vfs_top.specs.Phases.{history_limit};
+ghost use Rattle.vfs_top.specs.Phases.{history_limit, terms_of};
 
 use crate::epoch::{Ran, run_epoch};
 use crate::write::Unwritten;
-use downloaders::Plan;
 use one_session::{EpochLog, OneSession};
+use run_words::RunWords;
 use session_script::Line;
 use std::alloc::Global;
 use vfs_names::NoMemory;
 use vfs_outside::{CacheDisk, CacheFile, Clock, Gate, Object, Remote, Sink};
+use writeback_queue::QueueTerms;
 
 /// The most places of a history.
 const HISTORY_LIMIT: u32 = 1_048_576;
@@ -33,7 +35,7 @@ pub struct Kept<O: Object, F: CacheFile> {
 /// lost. The status is 0, 5 or 8.
 pub fn run_script<K: Sink, R: Remote, D: CacheDisk, C: Clock, G: Gate>(
     alloc: Global,
-    plan: &Plan,
+    run: &RunWords,
     sink: &mut K,
     remote: &mut R,
     disk: &mut D,
@@ -42,15 +44,16 @@ pub fn run_script<K: Sink, R: Remote, D: CacheDisk, C: Clock, G: Gate>(
     gate: &G,
 ) -> Kept<R::Object, D::File>
     requires lends { Lends D.tells 0 (D.disk disk.old) }
-    requires chunk { HasChunk plan.now.chunk }
+    requires chunk { HasChunk run.now.plan.chunk }
+    requires small { run.now.write_back ≤ 2 ^ 40 }
     requires can { CanDoAll lines.now }
     requires few { length lines.now ≤ 65536 }
-    ensures all { result.status ≡ 0 → DoesAll D.File.tells R.Object.tells plan.now
+    ensures all { result.status ≡ 0 → DoesAll D.File.tells R.Object.tells (meaning run.now)
         (K.written sink.old) (K.written sink.new)
         (around (C.moment clock.old) (R.outside remote.old) (D.disk disk.old))
         (around (C.moment clock.new) (R.outside remote.new) (D.disk disk.new))
         lines.now (map epoch_of result.epochs.items) }
-    ensures some { result.status ≡ 5 → DoesSome D.File.tells R.Object.tells plan.now
+    ensures some { result.status ≡ 5 → DoesSome D.File.tells R.Object.tells (meaning run.now)
         (K.written sink.old) (K.written sink.new)
         (around (C.moment clock.old) (R.outside remote.old) (D.disk disk.old))
         (around (C.moment clock.new) (R.outside remote.new) (D.disk disk.new))
@@ -58,7 +61,7 @@ pub fn run_script<K: Sink, R: Remote, D: CacheDisk, C: Clock, G: Gate>(
     ensures starved { result.status ≡ 8 → DoesNothing D.File.tells (K.written sink.old) (K.written sink.new)
         (around (C.moment clock.old) (R.outside remote.old) (D.disk disk.old))
         (around (C.moment clock.new) (R.outside remote.new) (D.disk disk.new))
-        (map epoch_of result.epochs.items) ⊎ DoesSome D.File.tells R.Object.tells plan.now
+        (map epoch_of result.epochs.items) ⊎ DoesSome D.File.tells R.Object.tells (meaning run.now)
         (K.written sink.old) (K.written sink.new)
         (around (C.moment clock.old) (R.outside remote.old) (D.disk disk.old))
         (around (C.moment clock.new) (R.outside remote.new) (D.disk disk.new))
@@ -66,13 +69,13 @@ pub fn run_script<K: Sink, R: Remote, D: CacheDisk, C: Clock, G: Gate>(
     ensures rose { result.status ≡ 5 → Rose (K.faults sink.old) (K.faults sink.new) }
     ensures ends { result.status ≢ 0 → result.status ≢ 5 → result.status ≡ 8 }
 {
-    let session = match begin(alloc, lines.len()) {
+    let session = match begin(alloc, run, lines.len()) {
         Ok(session) => session,
         Err(NoMemory) => return no_memory(alloc),
     };
     match Vec::with_capacity(alloc, 1) {
         Ok(epochs) => run_begun(
-            alloc, plan, session, epochs, sink, remote, disk, clock, lines, gate,
+            alloc, run, session, epochs, sink, remote, disk, clock, lines, gate,
         ),
         Err(_) => no_memory(alloc),
     }
@@ -89,16 +92,26 @@ pub fn no_memory<O: Object, F: CacheFile>(alloc: Global) -> Kept<O, F>
     }
 }
 
-/// A session with room for the records of so many calls.
-fn begin<O: Object, F: CacheFile>(alloc: Global, calls: usize) -> Result<OneSession<O, F>, NoMemory>
+/// A session with room for the records of so many calls, whose queue keeps to what the words ask for.
+fn begin<O: Object, F: CacheFile>(
+    alloc: Global,
+    run: &RunWords,
+    calls: usize,
+) -> Result<OneSession<O, F>, NoMemory>
+    requires small { run.now.write_back ≤ 2 ^ 40 }
     ensures new { (handed : List (Fingerprint × List ℕ))
         → IfOk result (λ session. Fits 1 (Knows F.tells O.tells handed) [] session) }
     ensures limit { IfOk result (λ session. session.limit ≡ history_limit) }
+    ensures terms { IfOk result (λ session. session.terms ≡ terms_of (meaning run.now)) }
     ensures none { IfOk result (λ session. session.files ≡ []) }
     ensures untouched { IfOk result IsUntouched }
     ensures room { IfOk result (λ session. calls ≤ session.room) }
 {
-    let mut session = match OneSession::new(alloc, HISTORY_LIMIT) {
+    let terms = QueueTerms {
+        write_back: run.write_back,
+        transfers: run.transfers,
+    };
+    let mut session = match OneSession::new(alloc, HISTORY_LIMIT, terms) {
         Ok(session) => session,
         Err(NoMemory) => return Err(NoMemory),
     };
@@ -111,7 +124,7 @@ fn begin<O: Object, F: CacheFile>(alloc: Global, calls: usize) -> Result<OneSess
 /// Does the lines, and keeps the epoch.
 fn run_begun<K: Sink, R: Remote, D: CacheDisk, C: Clock, G: Gate>(
     alloc: Global,
-    plan: &Plan,
+    run: &RunWords,
     session: OneSession<R::Object, D::File>,
     epochs: Vec<EpochLog<R::Object, D::File>>,
     sink: &mut K,
@@ -125,20 +138,21 @@ fn run_begun<K: Sink, R: Remote, D: CacheDisk, C: Clock, G: Gate>(
     requires new { (handed : List (Fingerprint × List ℕ))
         → Fits 1 (Knows D.File.tells R.Object.tells handed) [] session }
     requires limit { session.limit ≡ history_limit }
+    requires terms { session.terms ≡ terms_of (meaning run.now) }
     requires files { session.files ≡ [] }
     requires untouched { IsUntouched session }
-    requires chunk { HasChunk plan.now.chunk }
+    requires chunk { HasChunk run.now.plan.chunk }
     requires can { CanDoAll lines.now }
     requires few { length lines.now ≤ 65536 }
     requires records { length lines.now ≤ session.room }
     requires none { epochs.items ≡ [] }
     requires room { vec_len epochs < vec_capacity epochs }
-    ensures all { result.status ≡ 0 → DoesAll D.File.tells R.Object.tells plan.now
+    ensures all { result.status ≡ 0 → DoesAll D.File.tells R.Object.tells (meaning run.now)
         (K.written sink.old) (K.written sink.new)
         (around (C.moment clock.old) (R.outside remote.old) (D.disk disk.old))
         (around (C.moment clock.new) (R.outside remote.new) (D.disk disk.new))
         lines.now (map epoch_of result.epochs.items) }
-    ensures some { result.status ≢ 0 → DoesSome D.File.tells R.Object.tells plan.now
+    ensures some { result.status ≢ 0 → DoesSome D.File.tells R.Object.tells (meaning run.now)
         (K.written sink.old) (K.written sink.new)
         (around (C.moment clock.old) (R.outside remote.old) (D.disk disk.old))
         (around (C.moment clock.new) (R.outside remote.new) (D.disk disk.new))
@@ -146,9 +160,7 @@ fn run_begun<K: Sink, R: Remote, D: CacheDisk, C: Clock, G: Gate>(
     ensures rose { result.status ≡ 5 → Rose (K.faults sink.old) (K.faults sink.new) }
     ensures ends { result.status ≢ 0 → result.status ≢ 5 → result.status ≡ 8 }
 {
-    let Ran { log, wrote } = run_epoch(
-        alloc, plan, session, sink, remote, disk, clock, lines, gate,
-    );
+    let Ran { log, wrote } = run_epoch(alloc, run, session, sink, remote, disk, clock, lines, gate);
     let epochs = keep(epochs, log);
     match wrote {
         Ok(()) => Kept { status: 0, epochs },

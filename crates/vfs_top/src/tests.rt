@@ -22,6 +22,7 @@ mod phases;
 mod plain;
 mod replaced;
 mod steps;
+mod waiting;
 
 use odd_remote::OddRemote;
 

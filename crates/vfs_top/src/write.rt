@@ -1,18 +1,20 @@
 ghost use Rattle.std.specs.Prelude.{◌++◌, map};
-ghost use Rattle.session_text.specs.Lines.{end_text, join_text, start_text};
+ghost use Rattle.session_text.specs.Lines.{end_text, shown_text, start_text};
 ghost use Rattle.session_text.specs.declared.shown.Shown.TheVariants.{Replied};
 ghost use Rattle.vfs_top.specs.Epoch.{epoch_of};
 ghost use Rattle.vfs_outside.specs.Causes.{AppendsFront};
+ghost use Rattle.vfs_top.specs.Event.{pause_shown};
 ghost use Rattle.vfs_top.specs.Stop.{no_memory_text, stop_text};
-ghost use Rattle.vfs_top.specs.Transcript.{end_block, shown_texts};
+ghost use Rattle.vfs_top.specs.Transcript.{ending, shown_texts};
 ghost use Rattle.vfs_top.specs.Writing.{Writes};
 
-use crate::print::{print_ending, print_joined, print_replies};
+use crate::phase::Pause;
+use crate::print::{print_ending, print_paused, print_replies};
 use crate::stop::{Stop, print_stop};
 use one_session::EpochLog;
 use session_text::{Record, print_start};
 use std::alloc::Global;
-use vfs_names::{Blob, NoMemory};
+use vfs_names::{Blob, NoMemory, QueueRow};
 use vfs_outside::{CacheFile, Object, Sink};
 
 /// Why a text wasn't written.
@@ -64,36 +66,40 @@ pub fn write_replies<K: Sink>(
     }
 }
 
-/// Writes the replies of a phase's calls, and that this line ended the phase.
+/// Writes the replies of a phase's calls, and what this line showed that ended the phase, after which the clock told
+/// `moment`.
 #[tactic(auto, using(crate::proofs::Texts::none_written))]
-pub fn write_joined<K: Sink>(
+pub fn write_paused<K: Sink>(
     alloc: Global,
     sink: &mut K,
     records: &[Record],
     line: u32,
+    pause: Pause,
+    moment: u64,
 ) -> Result<(), Unwritten>
     ensures { Writes (K.written sink.old) (K.written sink.new) (K.faults sink.old) (K.faults sink.new)
-        (shown_texts (map Replied records.now) ++ join_text line) result }
+        (shown_texts (map Replied records.now) ++ shown_text (pause_shown line pause moment)) result }
 {
     let mut text = Blob::new(alloc);
-    match print_joined(&mut text, records, line) {
+    match print_paused(&mut text, records, line, pause, moment) {
         Ok(()) => write(sink, &text),
         Err(NoMemory) => Err(Unwritten::NoMemory),
     }
 }
 
-/// Writes the histories of an epoch, the queue, and the last line.
+/// Writes the histories of an epoch, these rows of its queue, and the last line.
 #[tactic(auto, using(crate::proofs::Texts::none_written))]
 pub fn write_ending<K: Sink, O: Object, F: CacheFile>(
     alloc: Global,
     sink: &mut K,
     log: &EpochLog<O, F>,
+    rows: &[QueueRow],
 ) -> Result<(), Unwritten>
     ensures { Writes (K.written sink.old) (K.written sink.new) (K.faults sink.old) (K.faults sink.new)
-        (end_block (epoch_of log.now) ++ end_text 0) result }
+        (ending (epoch_of log.now) rows.now ++ end_text 0) result }
 {
     let mut text = Blob::new(alloc);
-    match print_ending(alloc, &mut text, log) {
+    match print_ending(&mut text, log, rows) {
         Ok(()) => write(sink, &text),
         Err(NoMemory) => Err(Unwritten::NoMemory),
     }

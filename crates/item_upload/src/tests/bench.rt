@@ -7,7 +7,7 @@ ghost use Rattle.item_upload.specs.Finishing.{IsStaged};
 ghost use Rattle.sparse_item.specs.Item.{IsSupplied};
 ghost use Rattle.sparse_item.specs.Uploading.{IsDroppable, IsOf, IsOpen};
 
-use crate::{Finished, Step, block, finish, give_up, start};
+use crate::{Ended, Finished, Step, block, finish, give_up, start, upload};
 use cache_memory::{MemoryDisk, MemoryFile};
 use downloaders::{Limit, Plan};
 use item_core::Upload as Begun;
@@ -232,6 +232,32 @@ impl Bench {
         Bench::of(alloc, [0, 0], remote)
     }
 
+    /// A file that is an object whose pull of this number fails.
+    pub fn failing(alloc: Global, size: u64, pull: u64) -> Result<Bench, Fail> {
+        let mut remote = store_with(alloc, size)?;
+        remote.fail_pull(the_path(alloc)?, pull)?;
+        Bench::of(alloc, [0, 0], remote)
+    }
+
+    /// A file that was made here, of so many `a`, then `b` and then `c`.
+    pub fn made(alloc: Global, fails: [u64; 2], sizes: [u64; 3]) -> Result<Bench, Fail> {
+        let mut book = book_on(alloc, fails)?;
+        let look = book.look();
+        if look.dirty || look.opens > 0 {
+            return Err(Fail::from("in use"));
+        }
+        book.create(by(true, 40), the_path(alloc)?)?;
+        let remote = MemoryRemote::new(alloc);
+        let mut bench = Bench { book, remote };
+        bench.open_file()?;
+        let [first, second, third] = sizes;
+        bench.put(At::End, first, b'a')?;
+        bench.put(At::End, second, b'b')?;
+        bench.put(At::End, third, b'c')?;
+        bench.close_file()?;
+        Ok(bench)
+    }
+
     fn of(alloc: Global, fails: [u64; 2], mut remote: MemoryRemote) -> Result<Bench, Fail> {
         let mut book = book_on(alloc, fails)?;
         let path = the_path(alloc)?;
@@ -246,24 +272,50 @@ impl Bench {
         Ok(Bench { book, remote })
     }
 
-    /// Opens the file, writes these bytes and closes it.
-    pub fn touch(&mut self, pos: u64, bytes: &'static [u8]) -> Result<(), Fail> {
+    /// Opens the file.
+    fn open_file(&mut self) -> Result<(), Fail> {
         if !is_here(&self.book) || !is_supplied(&self.book) {
             return Err(Fail::from("not kept"));
         }
         self.book.open_handle(by(true, 41), Access::Both)?;
+        Ok(())
+    }
+
+    /// Writes a byte so many times to the open file.
+    fn put(&mut self, at: At, len: u64, byte: u8) -> Result<(), Fail> {
         if !has_handle(&self.book) {
             return Err(Fail::from("not open"));
         }
-        let payload = Payload::Fill {
-            len: bytes.len() as u64,
-            byte: *bytes.first().unwrap_or(&0),
-        };
-        let _count = self.book.write(by(false, 42), At::Pos(pos), payload)?;
+        let payload = Payload::Fill { len, byte };
+        let _count = self.book.write(by(false, 42), at, payload)?;
+        Ok(())
+    }
+
+    /// Closes the file.
+    fn close_file(&mut self) -> Result<(), Fail> {
         if !has_handle(&self.book) {
             return Err(Fail::from("not open"));
         }
         let _dirty = self.book.close_handle(by(true, 43));
+        Ok(())
+    }
+
+    /// Opens the file, writes these bytes, which are all the same, and closes it.
+    pub fn touch(&mut self, pos: u64, bytes: &'static [u8]) -> Result<(), Fail> {
+        self.open_file()?;
+        let byte = *bytes.first().unwrap_or(&0);
+        self.put(At::Pos(pos), bytes.len() as u64, byte)?;
+        self.close_file()
+    }
+
+    /// Asks for the file's size so many times.
+    pub fn ask(&mut self, times: u32) -> Result<(), Fail> {
+        for _ in 0..times {
+            if !is_here(&self.book) {
+                return Err(Fail::from("not kept"));
+            }
+            let _size = self.book.stat(by(false, 44))?;
+        }
         Ok(())
     }
 
@@ -306,11 +358,33 @@ impl Bench {
         Ok(())
     }
 
+    /// Uploads the file whole.
+    pub fn upload(&mut self, alloc: Global) -> Result<Ended, Fail> {
+        if !self.book.owed() || !is_supplied(&self.book) {
+            return Err(Fail::from("not owed"));
+        }
+        Ok(upload(
+            alloc,
+            &mut self.book,
+            &mut self.remote,
+            &the_plan(),
+            by(true, 48),
+        ))
+    }
+
     /// The bytes of the object at the file's path.
     pub fn stored(&self, alloc: Global) -> Result<Blob, Fail> {
         match self.remote.bytes_of(&the_path(alloc)?) {
             Some(bytes) => Ok(Blob::from_slice(alloc, bytes)?),
             None => Err(Fail::from("no object")),
+        }
+    }
+
+    /// Whether the object at the file's path has these bytes; with None, whether none is there.
+    pub fn has(&self, alloc: Global, bytes: Option<&[u8]>) -> Result<bool, Fail> {
+        match self.remote.bytes_of(&the_path(alloc)?) {
+            Some(found) => Ok(bytes == Some(found)),
+            None => Ok(bytes.is_none()),
         }
     }
 }

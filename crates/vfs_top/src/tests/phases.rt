@@ -95,7 +95,7 @@ fn a_phase_has_the_moment_at_which_it_began(rt: HostRuntime) -> Result<(), Fail>
     let script =
         "s1 open 0 a rw create\ns1 write 0 0 text:hi\njoin\njoin\ns1 read 0 0 2\ns1 close 0\n";
     let transcript =
-        "start files 0 queued 0 damaged 0\n1 ok [t1 f0:1]\n2 ok 2 [f0:2]\n3 join\n4 join\n5 ok 2 6869 [f0:3]\n6 ok [t2 f0:4]\ntree\n0 s1 100 listed / 1\n1 s1 100 created a 0\n2 s1 300 closed 0 dirty\nfile 0 a\n0 s1 100 1 create\n1 s1 100 1 opened rw\n2 s1 100 2 write 0 hex:6869\n3 s1 300 4 read 0 2\n4 s1 300 4 closed\nqueue\n0 5000 0\nend 0\n";
+        "start files 0 queued 0 damaged 0\n1 ok [t1 f0:1]\n2 ok 2 [f0:2]\n3 join\n4 join\n5 ok 2 6869 [f0:3]\n6 ok [t2 f0:4]\ntree\n0 s1 100 listed / 1\n1 s1 100 created a 0\n2 s1 300 closed 0 dirty\nfile 0 a\n0 s1 100 1 create\n1 s1 100 1 opened rw\n2 s1 100 2 write 0 hex:6869\n3 s1 300 4 read 0 2\n4 s1 300 4 closed\nqueue\n0 5300 0\nend 0\n";
     let seen = run_stepped(rt.alloc(), script, &[])?;
     expect_text(&rt, &seen, 0, transcript);
     Ok(())

@@ -1,6 +1,6 @@
 use Rattle.std.proofs.Common.{◌≡◌, arith}
 use Rattle.item_core.specs.History.{version_of}
-use Rattle.item_upload.proofs.Whole.{changed_kept}
+use Rattle.item_upload.proofs.Contents.{changed_kept}
 use Rattle.item_upload.proofs.blocks.block.Goals as goal
 
 pub upload_bytes-requires-clause-kept : goal.upload_bytes-requires-clause-kept

@@ -1,7 +1,7 @@
 use Rattle.std.proofs.Common.{◌≡◌, ap, arith}
 use Rattle.item_core.specs.History.{version_of}
 use Rattle.sparse_item.specs.Item.{Item}
-use Rattle.item_upload.proofs.Whole.{changed_kept, handed_same, handed_whole}
+use Rattle.item_upload.proofs.Contents.{changed_kept, handed_same, handed_whole}
 use Rattle.item_upload.proofs.ending.finish.Goals as goal
 
 pub commit_to_path-requires : goal.commit_to_path-requires

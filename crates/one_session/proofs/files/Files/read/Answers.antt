@@ -3,6 +3,7 @@ use Rattle.item_core.specs.History.{opens_by}
 use Rattle.sparse_item.specs.Item.{Item}
 use Rattle.one_session.specs.Books.{HasSame, IsSameFile, ReadsBook}
 use Rattle.one_session.proofs.Shelves.{seen_item, seen_limits, seen_moved, seen_one}
+use Rattle.one_session.proofs.Waiting.{reads, same_queued}
 use Rattle.one_session.proofs.files.Files.read.Goals as goal
 
 pub read-requires : goal.read-requires
@@ -36,7 +37,14 @@ returns-clause-did g c = seen_moved c.self.inside.files.items c.args.self.now.it
     })
 
 pub invariant_of-self : goal.invariant_of-self
-invariant_of-self g c = (c.self.invariant.0, c.self.invariant.1, seen_limits c.self.inside.files.items c.args.self.now.items (ap (λ v. v.items) c.self.view_is) c.args.item c.index_mut.result.now c.requires.inside c.index_mut.ensures.value c.self.inside.limit c.self.invariant.2 c.read.new.self c.read.ensures.limit)
+invariant_of-self g c = (
+  c.self.invariant.0,
+  c.self.invariant.1,
+  seen_limits c.self.inside.files.items c.args.self.now.items (ap (λ v. v.items) c.self.view_is) c.args.item c.index_mut.result.now c.requires.inside c.index_mut.ensures.value c.self.inside.limit c.self.invariant.2 c.read.new.self c.read.ensures.limit,
+  same_queued c.self.inside.files.items c.args.self.now.items (ap (λ v. v.items) c.self.view_is) c.args.item c.index_mut.result.now c.requires.inside c.index_mut.ensures.value c.self.inside.queue.terms c.self.inside.queue.entries c.read.new.self
+      (reads c.args.by c.args.pos c.args.len c.index_mut.result.now c.read.new.self c.read.result c.read.ensures.ok c.read.ensures.err).owed c.self.invariant.3,
+  c.self.invariant.4,
+)
 
 pub returns-clause-one : goal.returns-clause-one
 returns-clause-one g c = seen_one c.self.inside.files.items c.args.self.now.items (ap (λ v. v.items) c.self.view_is) c.args.item c.index_mut.result.now c.requires.inside c.index_mut.ensures.value c.read.new.self

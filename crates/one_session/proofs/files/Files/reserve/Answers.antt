@@ -1,10 +1,12 @@
 use Rattle.std.proofs.Common.{◌≡◌, ◌<◌, ◌≤◌, ◌∙◌, ap, subst, sym}
+use Rattle.item_core.specs.History.{is_owed}
 use Rattle.item_core.specs.Log.{free}
 use Rattle.sparse_item.specs.Item.{Item}
 use Rattle.one_session.specs.Calls.{free_in}
 use Rattle.one_session.specs.State.{entries_in}
 use Rattle.one_session.specs.Views.{histories}
 use Rattle.one_session.proofs.Shelves.{not_full, on_ok, seen_found, seen_free, seen_given, seen_limits, seen_moved, seen_one, seen_same}
+use Rattle.one_session.proofs.Waiting.{same_queued}
 use Rattle.one_session.proofs.files.Files.reserve.Goals as goal
 
 pub returns-clause-room : goal.returns-clause-room
@@ -27,7 +29,7 @@ returns-clause-full g c = λ h. subst (λ n. n < c.args.n)
     ∙ seen_free c.self.inside.files.items c.args.self.now.items (ap (λ v. v.items) c.self.view_is) c.args.item c.index_mut.result.now c.requires.inside c.index_mut.ensures.value c.self.inside.limit c.self.invariant.2)) (c.reserve.ensures.full.0 h)
 
 pub invariant_of-self : goal.invariant_of-self
-invariant_of-self g c = (c.self.invariant.0, c.self.invariant.1, seen_limits c.self.inside.files.items c.args.self.now.items (ap (λ v. v.items) c.self.view_is) c.args.item c.index_mut.result.now c.requires.inside c.index_mut.ensures.value c.self.inside.limit c.self.invariant.2 c.reserve.new.self (ap (λ x. x.log.limit) c.reserve.ensures.same))
+invariant_of-self g c = (c.self.invariant.0, c.self.invariant.1, seen_limits c.self.inside.files.items c.args.self.now.items (ap (λ v. v.items) c.self.view_is) c.args.item c.index_mut.result.now c.requires.inside c.index_mut.ensures.value c.self.inside.limit c.self.invariant.2 c.reserve.new.self (ap (λ x. x.log.limit) c.reserve.ensures.same), same_queued c.self.inside.files.items c.args.self.now.items (ap (λ v. v.items) c.self.view_is) c.args.item c.index_mut.result.now c.requires.inside c.index_mut.ensures.value c.self.inside.queue.terms c.self.inside.queue.entries c.reserve.new.self (ap (λ (x : Item). is_owed x.log.past) c.reserve.ensures.same) c.self.invariant.3, c.self.invariant.4)
 
 pub returns-clause-one : goal.returns-clause-one
 returns-clause-one g c = seen_one c.self.inside.files.items c.args.self.now.items (ap (λ v. v.items) c.self.view_is) c.args.item c.index_mut.result.now c.requires.inside c.index_mut.ensures.value c.reserve.new.self

@@ -8,15 +8,15 @@ use Rattle.one_session.proofs.Ending.{images_stand, lends_items}
 use Rattle.one_session.proofs.Served.{whole}
 use Rattle.one_session.proofs.session.OneSession.into_log.Goals as goal
 
-pub into_logs-requires-clause-lends : goal.into_logs-requires-clause-lends
-into_logs-requires-clause-lends g c = lends_items g.D.CacheDisk.tells c.self.inside.store.files.items (g.D.CacheDisk.disk c.args.disk.now)
+pub into_logs-files-requires-clause-lends : goal.into_logs-files-requires-clause-lends
+into_logs-files-requires-clause-lends g c = lends_items g.D.CacheDisk.tells c.self.inside.store.files.items (g.D.CacheDisk.disk c.args.disk.now)
     (subst (λ s. Lends g.D.CacheDisk.tells (length s.files) (g.D.CacheDisk.disk c.args.disk.now)) (sym c.self.view_is) c.requires.lends)
 
 pub returns-clause-whole : goal.returns-clause-whole
-returns-clause-whole g c = subst (λ s. IsWhole 1 s.tree s.files) c.self.view_is (whole (state_of c.self.inside.store [] [] 0) _ c.self.invariant.sound c.into_logs.ensures.legal)
+returns-clause-whole g c = subst (λ s. IsWhole 1 s.tree s.files) c.self.view_is (whole (state_of c.self.inside.store [] [] 0) _ c.self.invariant.sound c.into_logs-files.ensures.legal)
 
 pub returns-clause-images : goal.returns-clause-images
-returns-clause-images g c = λ told handed given. let disk = g.D.CacheDisk.disk c.into_logs.new.disk in
+returns-clause-images g c = λ told handed given. let disk = g.D.CacheDisk.disk c.into_logs-files.new.disk in
     subst (λ s. ImagesStand g.O.Object.tells handed disk s.files) c.self.view_is
-    (images_stand g.O.Object.tells handed c.self.inside.store.files.items disk (c.into_logs.ensures.images told)
+    (images_stand g.O.Object.tells handed c.self.inside.store.files.items disk (c.into_logs-files.ensures.images told)
     (subst (λ s. AreGiven g.O.Object.tells handed (given_all s.items)) (sym c.self.view_is) given))

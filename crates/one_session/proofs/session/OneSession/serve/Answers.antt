@@ -4,7 +4,7 @@ use Rattle.one_session.specs.Did.{Did}
 use Rattle.one_session.specs.Served.{Knows, Serves}
 use Rattle.one_session.specs.Slots.{Lends}
 use Rattle.one_session.specs.Standing.{recorded, state_of}
-use Rattle.one_session.specs.Steps.{TakesStep}
+use Rattle.one_session.specs.Steps.{QueuesStep, TakesStep}
 use Rattle.one_session.specs.Views.{Shelf, given_all}
 use Rattle.one_session.proofs.Ending.{lends_files, lends_items}
 use Rattle.one_session.proofs.Served.{serves}
@@ -41,6 +41,8 @@ returns-clause-served g c =
       cause,
       subst (λ s. TakesStep c.args.plan.now faults faults' line.call done s (state_of c.answer-reply.new.self c.push.new.self.items c.push-2.new.self.items room)) c.self.view_is
           (record { added = added; placed = stepped.0; does = stepped.1 }),
+      subst (λ s. QueuesStep c.args.by line.call done s (state_of c.answer-reply.new.self c.push.new.self.items c.push-2.new.self.items room)) c.self.view_is
+          (c.answer-reply.ensures.terms, c.answer-reply.ensures.queued line.line),
     )
 
 pub returns-clause-lends : goal.returns-clause-lends

@@ -62,3 +62,12 @@ returns-in-Close-clause-given g c = given_as g.O.Object.tells _ _ _ _ refl (sym 
 
 pub returns-in-Close-clause-stepped : goal.returns-in-Close-clause-stepped
 returns-in-Close-clause-stepped g c = λ line. rw c.in-Close.is (c.close.ensures.stepped c.args.plan.now line)
+
+pub returns-in-Write-clause-queued : goal.returns-in-Write-clause-queued
+returns-in-Write-clause-queued g c = λ line. rw c.in-Write.is (c.write.ensures.queued line)
+
+pub returns-in-Size-clause-queued : goal.returns-in-Size-clause-queued
+returns-in-Size-clause-queued g c = λ line. rw c.in-Size.is (c.set_size.ensures.queued line)
+
+pub returns-in-Close-clause-queued : goal.returns-in-Close-clause-queued
+returns-in-Close-clause-queued g c = λ line. rw c.in-Close.is (c.close.ensures.queued line)

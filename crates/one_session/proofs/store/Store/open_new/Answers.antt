@@ -119,6 +119,7 @@ returns-in-Err g c = record {
   given = given_same g.O.Object.tells _ _ _ _ c.refresh.ensures.handed (ap given_all c.make.ensures.items);
   cause = λ line. remote_cause c.args.handle c.args.path.now c.args.how _ _ _ (g.R.Remote.outside c.refresh.new.remote) _ [] c.refresh.ensures.faults c.refresh.ensures.changes c.refresh.ensures.handed (omega arith) (omega arith) refl (own_cause c.args.path.now _ _ _ _ refusals.NoMemory c.bare-in-Err.ensures.reply (inr refl));
   stepped = λ plan line. silent_stepped plan (g.D.CacheDisk.disk c.args.disk.now).faults (g.D.CacheDisk.disk c.args.disk.now).faults c.args.handle c.args.path.now c.args.how (recorded line c.bare-in-Err.result) (record { before = c.args.self.now.files.items; after = c.make.new.files.items }) refusals.NoMemory c.bare-in-Err.ensures.reply memory_not_disk c.bare-in-Err.ensures.file;
+  queue = c.make.ensures.queue;
 } where
   never : refusals.NoMemory ≡ refusals.HistoryFull → ⊥
   never e = cc

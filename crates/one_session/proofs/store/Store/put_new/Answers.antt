@@ -1,11 +1,12 @@
-use Rattle.std.proofs.Common.{◌∙◌, ap, sym, refl, subst, ◌≡◌, ◌<◌, ◌≤◌, ◌-◌, ◌++◌, ◌∷◌, [], ℕ, Some, length, min, arith, reverse}
+use Rattle.std.proofs.Common.{append-nil, ◌∙◌, ap, sym, refl, subst, ◌≡◌, ◌<◌, ◌≤◌, ◌-◌, ◌++◌, ◌∷◌, [], ℕ, Some, length, min, arith, reverse}
 use Rattle.std.proofs.lemmas.List.{length-map}
-use Rattle.item_core.specs.History.{held_by}
+use Rattle.item_core.specs.History.{held_by, is_owed}
 use Rattle.one_session.specs.Calls.{in_tree}
 use Rattle.one_session.specs.Slots.{IsSoundItem}
 use Rattle.one_session.specs.Start.{is_create, named_by, opened_kind}
 use Rattle.one_session.specs.State.{entries_in}
 use Rattle.one_session.specs.Views.{Numbered, Shelf, histories, stored}
+use Rattle.one_session.proofs.Owed.{start_owed}
 use Rattle.one_session.proofs.Putting.{new_end, new_held, new_later, new_sound}
 use Rattle.one_session.proofs.store.Store.put_new.Goals as goal
 
@@ -84,3 +85,6 @@ returns-in-Ok-clause-in_file g c =
     let sound_end = subst (λ l. IsSoundItem g.F.CacheFile.tells l c.min-item.result x) c.limit-limit.ensures c.in-Ok.ensures.begun.sound in
     rw (sym numbered) (c.note_open.ensures.in_file ∙ ap (λ n. Some (record { 0 = c.min-item.result }, n)) (ap (λ (f : Shelf). length (entries_in (histories f.items) c.min-item.result) - 1) (sym c.note_open.ensures.files) ∙ new_end g.O.Object.print_of g.F.CacheFile.tells c.args.self.now c.note_open.new.self c.args.handle c.min-item.result made c.args.by c.args.own c.args.access c.args.start print c.requires.sound small c.requires.closed c.requires.actor c.requires.pass c.requires.later
     tree c.note_open.ensures.limit limit c.note_open.ensures.table x numbered c.requires.absent c.requires.may paths items c.in-Ok.ensures.begun.past named sound_end))
+
+pub add-requires-clause-owed : goal.add-requires-clause-owed
+add-requires-clause-owed g c = ap is_owed (c.in-Ok.ensures.begun.past ∙ sym (append-nil _)) ∙ start_owed g.O.Object.print_of c.args.by c.args.access c.in-Ok.file.slot.calls c.args.start [] c.requires.may

@@ -1,4 +1,4 @@
-use Rattle.std.proofs.Common.{◌∙◌, ap, sym, refl, ◌≡◌, ◌<◌, Some, Err}
+use Rattle.std.proofs.Common.{◌∙◌, ◌++◌, ap, sym, refl, ◌≡◌, ◌<◌, Some, Err}
 use Rattle.vfs_names.specs.declared.refusal.Verb.TheVariants as verb
 use Rattle.vfs_names.specs.declared.refusal.Refusal.{Refusal}
 use Rattle.vfs_names.specs.declared.refusal.Refusal.TheVariants as refusals
@@ -11,6 +11,7 @@ use Rattle.one_session.specs.State.{file_at, item_at, item_in}
 use Rattle.one_session.specs.Standing.{recorded}
 use Rattle.one_session.proofs.Changes.{one_caused, one_entered, one_later, one_placed, one_sound, refusal_caused, refusal_did, refusal_later, refusal_placed, refusal_sound, size_calm, size_silent, sized_caused}
 use Rattle.one_session.proofs.Handles.{handle_full, handle_kept, handle_ready, same_count, same_given}
+use Rattle.one_session.proofs.Waiting.{enters_nothing, news_refused, news_done}
 use Rattle.one_session.proofs.store.Store.set_size.Goals as goal
 
 pub set_size-requires-clause-open : goal.set_size-requires-clause-open
@@ -69,3 +70,11 @@ returns-in-Err-clause-given g c = let at : file_at c.args.self.now.table.items c
 pub returns-in-Err-clause-stepped : goal.returns-in-Err-clause-stepped
 returns-in-Err-clause-stepped g c = λ plan line. let at : file_at c.args.self.now.table.items c.args.handle ≡ Some c.in-Some.opened = sym c.file_of.ensures ∙ c.in-Some.is in
     (refusal_placed g.F.CacheFile.tells c.args.self.now (record c.args.self.now { files = c.set_size.new.self }) c.args.handle c.end-place.result c.in-Some.opened c.args.by (recorded line c.of_refusal.result) c.requires.sound at c.requires.actor c.requires.pass c.requires.later refl refl refl c.set_size.ensures.limit c.set_size.ensures.one c.of_refusal.ensures.tree c.end-place.ensures c.set_size.ensures.did.same c.set_size.ensures.did.has_same (call.Size c.args.handle c.args.size) verb.Size c.in-Err.why c.in-Err.ensures.did.err c.in-Err.ensures.did.causes c.of_refusal.ensures.reply c.of_refusal.ensures.file refl, refusal_caused g.F.CacheFile.tells c.args.self.now (record c.args.self.now { files = c.set_size.new.self }) c.args.handle c.end-place.result c.in-Some.opened c.args.by (recorded line c.of_refusal.result) c.requires.sound at c.requires.actor c.requires.pass c.requires.later refl refl refl c.set_size.ensures.limit c.set_size.ensures.one c.of_refusal.ensures.tree c.end-place.ensures c.set_size.ensures.did.same c.set_size.ensures.did.has_same (call.Size c.args.handle c.args.size) verb.Size c.in-Err.why c.in-Err.ensures.did.err c.in-Err.ensures.did.causes c.of_refusal.ensures.reply c.of_refusal.ensures.file)
+
+pub returns-in-Ok-clause-queued : goal.returns-in-Ok-clause-queued
+returns-in-Ok-clause-queued g c = λ line. c.in-Ok.ensures.queue ∙ ap (λ l. c.args.self.now.files.queue.entries ++ l) (sym (news_done c.args.self.now.files.queue.terms.write_back c.args.by c.of_file.result.reply c.of_file.result.file c.in-Some.opened.item c.end-place.result
+    (record { before = c.args.self.now.files.items; after = c.set_size.new.self.items }) c.of_file.ensures.reply c.of_file.ensures.file))
+
+pub returns-in-Err-clause-queued : goal.returns-in-Err-clause-queued
+returns-in-Err-clause-queued g c = λ line. enters_nothing _ _ _ c.in-Err.ensures.still
+    (news_refused c.args.self.now.files.queue.terms.write_back c.args.by c.of_refusal.result.reply c.of_refusal.result.file c.in-Err.why (record { before = c.args.self.now.files.items; after = c.set_size.new.self.items }) c.of_refusal.ensures.reply)

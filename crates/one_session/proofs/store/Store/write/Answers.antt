@@ -1,4 +1,4 @@
-use Rattle.std.proofs.Common.{◌∙◌, ap, sym, refl, subst, ◌≡◌, Some, Err}
+use Rattle.std.proofs.Common.{◌∙◌, ◌++◌, ap, sym, refl, subst, ◌≡◌, Some, Err}
 use Rattle.vfs_names.specs.Payload.{payload_len}
 use Rattle.vfs_names.specs.declared.refusal.Verb.TheVariants as verb
 use Rattle.item_core.specs.declared.entry.FileKind.TheVariants as file
@@ -11,6 +11,7 @@ use Rattle.one_session.specs.State.{file_at, item_at, item_in}
 use Rattle.one_session.specs.Standing.{recorded}
 use Rattle.one_session.proofs.Changes.{one_caused, one_entered, one_later, one_placed, one_sound, refusal_caused, refusal_did, refusal_later, refusal_placed, refusal_sound, unwrote_took, write_calm, write_silent, wrote_caused, wrote_took}
 use Rattle.one_session.proofs.Handles.{handle_full, handle_ready, same_count, same_given}
+use Rattle.one_session.proofs.Waiting.{enters_nothing, news_refused, news_wrote}
 use Rattle.one_session.proofs.store.Store.write.Goals as goal
 
 pub write-requires-clause-open : goal.write-requires-clause-open
@@ -65,3 +66,11 @@ returns-in-Err-clause-given g c = let at : file_at c.args.self.now.table.items c
 pub returns-in-Err-clause-stepped : goal.returns-in-Err-clause-stepped
 returns-in-Err-clause-stepped g c = λ plan line. let at : file_at c.args.self.now.table.items c.args.handle ≡ Some c.in-Some.opened = sym c.file_of.ensures ∙ c.in-Some.is in
     (refusal_placed g.F.CacheFile.tells c.args.self.now (record c.args.self.now { files = c.write.new.self }) c.args.handle c.end-place.result c.in-Some.opened c.args.by (recorded line c.of_refusal.result) c.requires.sound at c.requires.actor c.requires.pass c.requires.later refl refl refl c.write.ensures.limit c.write.ensures.one c.of_refusal.ensures.tree c.end-place.ensures c.write.ensures.did.same c.write.ensures.did.has_same (call.Write c.args.handle c.args.pos c.args.payload.now) verb.Write c.in-Err.why c.in-Err.ensures.did.err c.in-Err.ensures.did.causes c.of_refusal.ensures.reply c.of_refusal.ensures.file (unwrote_took c.args.handle c.args.pos c.args.payload.now c.of_refusal.result.reply c.in-Err.why (item_in c.args.self.now.files.items c.in-Some.opened.item) (item_in c.write.new.self.items c.in-Some.opened.item) c.of_refusal.ensures.reply), refusal_caused g.F.CacheFile.tells c.args.self.now (record c.args.self.now { files = c.write.new.self }) c.args.handle c.end-place.result c.in-Some.opened c.args.by (recorded line c.of_refusal.result) c.requires.sound at c.requires.actor c.requires.pass c.requires.later refl refl refl c.write.ensures.limit c.write.ensures.one c.of_refusal.ensures.tree c.end-place.ensures c.write.ensures.did.same c.write.ensures.did.has_same (call.Write c.args.handle c.args.pos c.args.payload.now) verb.Write c.in-Err.why c.in-Err.ensures.did.err c.in-Err.ensures.did.causes c.of_refusal.ensures.reply c.of_refusal.ensures.file)
+
+pub returns-in-Ok-write-clause-queued : goal.returns-in-Ok-write-clause-queued
+returns-in-Ok-write-clause-queued g c = λ line. c.in-Ok-write.ensures.queue ∙ ap (λ l. c.args.self.now.files.queue.entries ++ l) (sym (news_wrote c.args.self.now.files.queue.terms.write_back c.args.by c.of_file.result.reply c.of_file.result.file c.in-Some.opened.item c.end-place.result _
+    (record { before = c.args.self.now.files.items; after = c.write.new.self.items }) c.of_file.ensures.reply c.of_file.ensures.file))
+
+pub returns-in-Err-clause-queued : goal.returns-in-Err-clause-queued
+returns-in-Err-clause-queued g c = λ line. enters_nothing _ _ _ c.in-Err.ensures.still
+    (news_refused c.args.self.now.files.queue.terms.write_back c.args.by c.of_refusal.result.reply c.of_refusal.result.file c.in-Err.why (record { before = c.args.self.now.files.items; after = c.write.new.self.items }) c.of_refusal.ensures.reply)

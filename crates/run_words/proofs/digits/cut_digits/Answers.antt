@@ -1,6 +1,6 @@
 use Rattle.std.proofs.Common.{◌∙◌, sym}
 use Rattle.run_words.proofs.SizeWords.{first_at, first_nowhere}
-use Rattle.run_words.proofs.size.cut_digits.Goals as goal
+use Rattle.run_words.proofs.digits.cut_digits.Goals as goal
 
 pub returns-in-Some-clause-digits : goal.returns-in-Some-clause-digits
 returns-in-Some-clause-digits c = c.split_at.ensures.front
