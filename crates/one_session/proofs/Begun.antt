@@ -13,7 +13,7 @@ use Rattle.one_session.specs.Slots.{IsSoundItem}
 use Rattle.one_session.specs.Start.{front_of, named_by, opening}
 use Rattle.one_session.specs.declared.start.Start.{Start}
 use Rattle.one_session.specs.declared.start.Start.TheVariants.{Kept, Create, Bind, Adopt}
-use Rattle.one_session.proofs.Items.{AreUnsaving, sound_on}
+use Rattle.one_session.proofs.Items.{sound_on}
 
 -- at most one path stands beside it
 pub named_turned : {O S : Type 0} (path : List ℕ) (start : Start O S) → named_by path start ≡ reverse (named_by path start)
@@ -22,14 +22,7 @@ named_turned path Create = refl
 named_turned path (Bind object) = refl
 named_turned path (Adopt object) = refl
 
--- it saves nothing by an upload
-pub opening_unsaving : {O S : Type 0} (print_of : O → Fingerprint) (by : By) (access : Access) (made : ℕ) (start : Start O S) → AreUnsaving (reverse (opening by access made (front_of print_of start)))
-opening_unsaving print_of by access made Kept = (refl, tt)
-opening_unsaving print_of by access made Create = (refl, (refl, tt))
-opening_unsaving print_of by access made (Bind object) = (refl, (refl, tt))
-opening_unsaving print_of by access made (Adopt object) = (refl, (refl, tt))
-
 -- the file stays sound
 pub opened_item : {O S : Type 0} (print_of : O → Fingerprint) (tells : Type 0) (limit n made : ℕ) (by : By) (access : Access) (start : Start O S) (old new : Item) → IsSoundItem tells limit n old → IsSameFile tells old new
     → new.log.past ≡ reverse (opening by access made (front_of print_of start)) ++ old.log.past → IsSoundItem tells limit n new
-opened_item print_of tells limit n made by access start old new s same past = sound_on tells limit n old new (reverse (opening by access made (front_of print_of start))) s same past (opening_unsaving print_of by access made start)
+opened_item print_of tells limit n made by access start old new s same past = sound_on tells limit n old new (reverse (opening by access made (front_of print_of start))) s same past

@@ -36,10 +36,10 @@ use Rattle.one_session.proofs.ReadsDone.{refused_calm}
 use Rattle.one_session.proofs.Refusing.{AddsNone, AddsOne, IsSilent, changes_adds}
 
 pub write_calm : (pos : ℕ) (payload : Payload) → IsCalm (file.Write pos payload)
-write_calm pos payload = record { kept = refl; no_open = refl; no_close = refl; no_name = refl; no_save = refl }
+write_calm pos payload = record { kept = refl; no_open = refl; no_close = refl; no_name = refl; no_move = refl }
 
 pub size_calm : (size : ℕ) → IsCalm (file.SetSize size)
-size_calm size = record { kept = refl; no_open = refl; no_close = refl; no_name = refl; no_save = refl }
+size_calm size = record { kept = refl; no_open = refl; no_close = refl; no_name = refl; no_move = refl }
 
 -- the disk is the cause of a refusal that says so
 fault_rose : (was is : Item) (why : Refusal) → IsCause was is why → why ≡ refusals.DiskFault → Rose was.slot.faults is.slot.faults

@@ -63,7 +63,7 @@ module _ {O S F : Type 0} (tells : Type 0) (old : Store O S F) (items : List Ite
 
   pub shut_items : (limit : ℕ) → limit ≡ old.files.limit → (n : ℕ) → n < length items → IsSoundItem tells limit n (item_in items n)
   shut_items limit same = items_on tells limit old.files.items items k.item one lt
-      (sound_on tells limit k.item (item_in old.files.items k.item) (item_in items k.item) (in_file by true made file.Closed ∷ []) (own_sound k.item lt) book.same book.past (refl, tt)) own_sound where
+      (sound_on tells limit k.item (item_in old.files.items k.item) (item_in items k.item) (in_file by true made file.Closed ∷ []) (own_sound k.item lt) book.same book.past) own_sound where
         own_sound : (n : ℕ) → n < length old.files.items → IsSoundItem tells limit n (item_in old.files.items n)
         own_sound n inside = subst (λ l. IsSoundItem tells l n (item_in old.files.items n)) (sym same) (s.items n inside)
 

@@ -5,13 +5,12 @@ use Rattle.vfs_names.specs.declared.who.Actor.TheVariants.{Session}
 use Rattle.vfs_names.specs.declared.who.By.{By}
 use Rattle.item_core.specs.declared.entry.FileKind.{FileKind}
 use Rattle.item_core.specs.Effects.{is_opened, is_closed, kept_after}
-use Rattle.item_image.specs.Entries.{is_saving}
 use Rattle.item_core.specs.Log.{used}
 use Rattle.sparse_item.specs.Answers.{IsFull}
 use Rattle.one_session.specs.Books.{HasSame, IsSameFile, TouchesOne}
 use Rattle.one_session.specs.Calls.{free_in, in_file}
 use Rattle.one_session.specs.Slots.{IsSoundItem}
-use Rattle.one_session.specs.Sound.{IsSound}
+use Rattle.one_session.specs.Sound.{IsSound, is_renaming}
 use Rattle.one_session.specs.Standing.{IsSoundStore}
 use Rattle.one_session.specs.State.{entries_in, file_at, item_in}
 use Rattle.one_session.specs.Views.{add_to, given_all, histories, stored}
@@ -29,7 +28,7 @@ pub record IsCalm (kind : FileKind) : Type 0 where
   pub no_open : is_opened kind ≡ false
   pub no_close : is_closed kind ≡ false
   pub no_name : names_file kind ≡ false
-  pub no_save : is_saving kind ≡ false
+  pub no_move : is_renaming kind ≡ false
 
 -- the number of a handle's file is below that of the files
 pub handle_inside : {O S F : Type 0} (tells : Type 0) (store : Store O S F) (handle : ℕ) (k : Handle) → IsSoundStore tells store → file_at store.table.items handle ≡ Some k → k.item < length store.files.items
@@ -66,7 +65,7 @@ module _ {O S F : Type 0} (tells : Type 0) (old new : Store O S F) (handle : ℕ
 
     pub still_sound : IsSoundStore tells new
     still_sound = with_files (subst (λ l. IsSound old.tree.entries old.paths.paths l old.table.items) (sym still_files) s.sound)
-        (items_on tells new.files.limit old.files.items new.files.items k.item one lt (sound_on tells new.files.limit k.item (item_in old.files.items k.item) (item_in new.files.items k.item) [] (own_sound k.item lt) same none tt) own_sound)
+        (items_on tells new.files.limit old.files.items new.files.items k.item one lt (sound_on tells new.files.limit k.item (item_in old.files.items k.item) (item_in new.files.items k.item) [] (own_sound k.item lt) same none) own_sound)
 
     pub still_later : IsUpTo by (histories new.files.items)
     still_later = subst (IsUpTo by) (sym still_files) up
@@ -79,8 +78,8 @@ module _ {O S F : Type 0} (tells : Type 0) (old new : Store O S F) (handle : ℕ
 
     pub grown_sound : IsSoundStore tells new
     grown_sound = with_files (subst (λ l. IsSound old.tree.entries old.paths.paths l old.table.items) (sym grown_files)
-        (sound_grown old.tree.entries old.paths.paths (histories old.files.items) old.table.items handle k by made kind s.sound at own pass up calm.kept calm.no_open calm.no_close calm.no_name))
-        (items_on tells new.files.limit old.files.items new.files.items k.item one lt (sound_on tells new.files.limit k.item (item_in old.files.items k.item) (item_in new.files.items k.item) (in_file by false made kind ∷ []) (own_sound k.item lt) same past (calm.no_save, tt)) own_sound)
+        (sound_grown old.tree.entries old.paths.paths (histories old.files.items) old.table.items handle k by made kind s.sound at own pass up calm.kept calm.no_open calm.no_close calm.no_name calm.no_move))
+        (items_on tells new.files.limit old.files.items new.files.items k.item one lt (sound_on tells new.files.limit k.item (item_in old.files.items k.item) (item_in new.files.items k.item) (in_file by false made kind ∷ []) (own_sound k.item lt) same past) own_sound)
 
     pub grown_later : IsUpTo by (histories new.files.items)
     grown_later = subst (IsUpTo by) (sym grown_files)

@@ -1,33 +1,17 @@
 -- A file stays sound as its history goes on.
-use Rattle.std.proofs.Common.{◌≡◌, ◌⊎◌, ◌<◌, ◌≤◌, ℕ, zero, suc, ◌+◌, ◌++◌, ◌∙◌, ap, sym, refl, subst, inl, inr, arith, Bool, true, false, List, [], ◌∷◌, length, eqb, length-append, nat_lt, true≢false}
+use Rattle.std.proofs.Common.{◌≡◌, ◌⊎◌, ◌<◌, ◌≤◌, ℕ, zero, suc, ◌+◌, ◌++◌, ◌∙◌, ap, sym, refl, subst, inl, inr, arith, Bool, true, false, List, [], ◌∷◌, length, eqb, length-append, nat_lt}
 use Rattle.std.proofs.lemmas.Bool.Decides.{eqb_tells}
 use Rattle.vfs_outside.specs.Image.{meta_in}
-use Rattle.item_core.specs.Content.{IsSavedWhole, Known, SavesContent}
 use Rattle.item_core.specs.Effects.{is_opened, is_start}
 use Rattle.item_core.specs.History.{count_of}
 use Rattle.item_core.specs.declared.entry.Entry.{Entry}
 use Rattle.item_core.specs.declared.entry.FileKind.{FileKind}
-use Rattle.item_core.specs.declared.entry.FileKind.TheVariants.{Uploaded}
-use Rattle.item_image.specs.Entries.{is_saving}
 use Rattle.sparse_item.specs.Item.{Item}
 use Rattle.sparse_item.specs.Sound.{is_begun}
 use Rattle.one_session.specs.Books.{IsSameFile, TouchesOne}
 use Rattle.one_session.specs.Slots.{IsSoundItem}
 use Rattle.one_session.specs.State.{item_in}
 use Rattle.one_session.proofs.Shelves.{touched_length, touched_other}
-
--- none of these entries is that of an upload
-abbrev pub AreUnsaving : List Entry → Type 0
-AreUnsaving [] = Unit {0}
-AreUnsaving (e ∷ es) = (is_saving e.kind ≡ false) × AreUnsaving es
-
-saves_nothing : (known : Known) (past : List Entry) (kind : FileKind) → is_saving kind ≡ false → SavesContent known past kind
-saves_nothing known past (Uploaded start print) h = absurd (true≢false h)
-saves_nothing known past _ h = tt
-
-whole_more : (known : Known) (es past : List Entry) → AreUnsaving es → IsSavedWhole known past → IsSavedWhole known (es ++ past)
-whole_more known [] past q w = w
-whole_more known (e ∷ es) past q w = (saves_nothing known (es ++ past) e.kind q.0, whole_more known es past q.1 w)
 
 -- a count never falls
 count_up : (such : FileKind → Bool) (e : Entry) (past : List Entry) (b : Bool) → such e.kind ≡ b → count_of such past ≤ count_of such (e ∷ past)
@@ -44,13 +28,12 @@ begun_more [] past h = h
 begun_more (e ∷ es) past h = begun_step e (es ++ past) (begun_more es past h)
 
 -- a file stays sound
-pub sound_on : (tells : Type 0) (limit n : ℕ) (old new : Item) (es : List Entry) → IsSoundItem tells limit n old → IsSameFile tells old new → new.log.past ≡ es ++ old.log.past → AreUnsaving es → IsSoundItem tells limit n new
-sound_on tells limit n old new es s same past quiet = record {
+pub sound_on : (tells : Type 0) (limit n : ℕ) (old new : Item) (es : List Entry) → IsSoundItem tells limit n old → IsSameFile tells old new → new.log.past ≡ es ++ old.log.past → IsSoundItem tells limit n new
+sound_on tells limit n old new es s same past = record {
   slot = ap (λ i. i.0) same.slot_id ∙ s.slot;
   places = same.limit ∙ s.places;
   begun = ap is_begun past ∙ begun_more es old.log.past s.begun;
   blank = λ t. ap (λ told. meta_in told.first) (same.slot.told t).1 ∙ s.blank t;
-  whole = λ known. subst (IsSavedWhole known) (sym past) (whole_more known es old.log.past quiet (s.whole known));
   fresh = same.saved ∙ s.fresh;
 }
 

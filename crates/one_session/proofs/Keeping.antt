@@ -20,16 +20,15 @@ use Rattle.item_core.specs.Effects.{is_opened, is_closed, kept_after}
 use Rattle.item_core.specs.History.{count_of, is_dirty, is_kept, made_by, opens_by, opens_of}
 use Rattle.item_core.specs.Legal.{IsNoLater}
 use Rattle.one_session.specs.Calls.{in_file, in_tree}
-use Rattle.one_session.specs.Matching.{entries_of}
 use Rattle.one_session.specs.Served.{in_file_of, in_tree_of, is_session}
-use Rattle.one_session.specs.Sound.{IsOwnPast, IsSound, IsSoundFile, IsTied, has_file, has_some}
+use Rattle.one_session.specs.Sound.{is_renaming, IsOwnPast, IsSound, IsSoundFile, IsTied, has_file, has_some}
 use Rattle.one_session.specs.Start.{opened_kind}
 use Rattle.one_session.specs.State.{History, entries_in, file_at, history_in, names_in}
 use Rattle.one_session.specs.Tree.{closed_in, closes_item, files_after, files_of, is_close, is_held, is_open, item_after, item_of, left_after, left_dirty, opened_in, opens_item}
 use Rattle.one_session.specs.Views.{add_to}
-use Rattle.one_session.specs.Whole.{IsNamed, IsUpTo, names_file}
+use Rattle.one_session.specs.Whole.{IsMadeInTree, IsNamed, IsUpTo, names_file}
 use Rattle.one_session.specs.declared.handle.Handle.{Handle}
-use Rattle.one_session.proofs.Going.{entries_of-append}
+use Rattle.one_session.proofs.Makers.{all_append}
 use Rattle.one_session.proofs.Tables.{at_put, opened_other, opened_own, opened_some, shut_other, shut_own, shut_some, some_open}
 use Rattle.one_session.proofs.Trees.{IsPlain, closed_more, closed_plain, count_more, files_more, item_more, item_plain, left_more, left_plain, opened_more, opened_plain}
 
@@ -75,14 +74,14 @@ pub own_in_tree : (e : TreeEntry) → e.by.who.actor ≡ Session 1 → in_tree_o
 own_in_tree e h = ap (λ a. is_session a 1) h
 
 -- one entry more
-made_step : (e : Entry) (past : List Entry) → e.by.pass ≡ 0 → made_by 0 (e ∷ past) ≡ e ∷ made_by 0 past
+pub made_step : (e : Entry) (past : List Entry) → e.by.pass ≡ 0 → made_by 0 (e ∷ past) ≡ e ∷ made_by 0 past
 made_step e past h = rw h refl
 
-own_step : (by : By) (under : Bool) (made : ℕ) (kind : FileKind) (past : List Entry) → by.who.actor ≡ Session 1 → by.pass ≡ 0 → IsNoLater past by → IsOwnPast past → IsOwnPast (in_file by under made kind ∷ past)
-own_step by under made kind past own pass later p = record {
+own_step : (by : By) (under : Bool) (made : ℕ) (kind : FileKind) (past : List Entry) → by.who.actor ≡ Session 1 → by.pass ≡ 0 → is_renaming kind ≡ false → IsNoLater past by → IsOwnPast past → IsOwnPast (in_file by under made kind ∷ past)
+own_step by under made kind past own pass still later p = record {
   pass = made_step (in_file by under made kind) past pass ∙ ap (λ l. in_file by under made kind ∷ l) p.pass;
-  alone = ap (entries_of in_file_of 1) (reverse-append (in_file by under made kind ∷ []) past) ∙ entries_of-append in_file_of 1 (reverse past) (in_file by under made kind ∷ [])
-      ∙ ap (λ l. l ++ entries_of in_file_of 1 (in_file by under made kind ∷ [])) p.alone ∙ ap (λ b. reverse past ++ cond b (in_file by under made kind ∷ []) []) (own_entry by under made kind own) ∙ sym (reverse-append (in_file by under made kind ∷ []) past);
+  made = (inl (own_entry by under made kind own), p.made);
+  unmoved = (still, p.unmoved);
   timely = (no_later past by (in_file by under made kind).by refl refl later, p.timely);
 } where
   no_later : (past : List Entry) (a b : By) → a.who.phase ≡ b.who.phase → a.now ≡ b.now → IsNoLater past a → IsNoLater past b
@@ -93,10 +92,10 @@ own_step by under made kind past own pass later p = record {
 turned : (e : Entry) (more past : List Entry) → reverse (e ∷ more) ++ past ≡ reverse more ++ (e ∷ past)
 turned e more past = ap (λ l. l ++ past) (reverse-append (e ∷ []) more) ∙ append_assoc (reverse more) (e ∷ []) past
 
-pub own_all : (by : By) (under : Bool) (made : ℕ) (kinds : List FileKind) (past : List Entry) → by.who.actor ≡ Session 1 → by.pass ≡ 0 → IsNoLater past by → IsOwnPast past → IsOwnPast (reverse (map (in_file by under made) kinds) ++ past)
-own_all by under made [] past own pass later p = p
-own_all by under made (kind ∷ kinds) past own pass later p = subst IsOwnPast (sym (turned (in_file by under made kind) (map (in_file by under made) kinds) past))
-    (own_all by under made kinds (in_file by under made kind ∷ past) own pass (omega arith, omega arith) (own_step by under made kind past own pass later p))
+pub own_all : (by : By) (under : Bool) (made : ℕ) (kinds : List FileKind) (past : List Entry) → by.who.actor ≡ Session 1 → by.pass ≡ 0 → AllByRecursion (λ (kind : FileKind). is_renaming kind ≡ false) kinds → IsNoLater past by → IsOwnPast past → IsOwnPast (reverse (map (in_file by under made) kinds) ++ past)
+own_all by under made [] past own pass still later p = p
+own_all by under made (kind ∷ kinds) past own pass still later p = subst IsOwnPast (sym (turned (in_file by under made kind) (map (in_file by under made) kinds) past))
+    (own_all by under made kinds (in_file by under made kind ∷ past) own pass still.1 (omega arith, omega arith) (own_step by under made kind past own pass still.0 later p))
 
 later_all : (by : By) (under : Bool) (made : ℕ) (kinds : List FileKind) (past : List Entry) → IsNoLater past by → IsNoLater (reverse (map (in_file by under made) kinds) ++ past) by
 later_all by under made [] past later = later
@@ -120,13 +119,13 @@ pub record Fit (tree : List TreeEntry) (table : List (Option Handle)) (count : �
   pub size : length table ≡ 256
   pub handles : count_by (λ (e : TreeEntry). is_open e.kind) tree ≡ count_by (λ (e : TreeEntry). is_close e.kind) tree + count_by has_some table
   pub inside : (handle : ℕ) (k : Handle) → file_at table handle ≡ Some k → k.item < count
-  pub alone : entries_of in_tree_of 1 tree ≡ tree
+  pub made : AllByRecursion (IsMadeInTree 1) tree
 
-alone_more : (es : List TreeEntry) (e : TreeEntry) → e.by.who.actor ≡ Session 1 → entries_of in_tree_of 1 es ≡ es → entries_of in_tree_of 1 (es ++ e ∷ []) ≡ es ++ e ∷ []
-alone_more es e own h = entries_of-append in_tree_of 1 es (e ∷ []) ∙ ap (λ l. l ++ entries_of in_tree_of 1 (e ∷ [])) h ∙ ap (λ b. es ++ cond b (e ∷ []) []) (own_in_tree e own)
+made_more : (es : List TreeEntry) (e : TreeEntry) → e.by.who.actor ≡ Session 1 → AllByRecursion (IsMadeInTree 1) es → AllByRecursion (IsMadeInTree 1) (es ++ e ∷ [])
+made_more es e own h = all_append (IsMadeInTree 1) es (e ∷ []) h (inl (own_in_tree e own), tt)
 
 same_fit : (es : List TreeEntry) (paths : List (List ℕ)) (files : List History) (table : List (Option Handle)) → IsSound es paths files table → Fit es table (length files)
-same_fit es paths files table s = record { size = s.size; handles = s.handles; inside = s.inside; alone = s.alone }
+same_fit es paths files table s = record { size = s.size; handles = s.handles; inside = s.inside; made = s.made }
 
 plus : (n : ℕ) (b : Bool) → b ≡ false → n + cond b 1 0 ≡ n
 plus n b e = rw e (omega arith)
@@ -150,7 +149,7 @@ fit_shut es e table h k count f o c own lt at = record {
   handles = closed _ _ _ (count_more (λ (x : TreeEntry). is_open x.kind) es e ∙ plus (count_by (λ (x : TreeEntry). is_open x.kind) es) (is_open e.kind) o)
       (count_more (λ (x : TreeEntry). is_close x.kind) es e ∙ plus_one (count_by (λ (x : TreeEntry). is_close x.kind) es) (is_close e.kind) c) f.handles (shut_some table h k lt at);
   inside = put_inside table h None count count lt (omega arith) (λ k e. absurd (none-some k e)) f.inside;
-  alone = alone_more es e own f.alone;
+  made = made_more es e own f.made;
 } where
   closed : {opens opens' closes' : ℕ} (closes some some' : ℕ) → opens' ≡ opens → closes' ≡ closes + 1 → opens ≡ closes + some → some' + 1 ≡ some → opens' ≡ closes' + some'
   closed closes some some' x y z w = omega (arith, x, y, z, w)
@@ -163,7 +162,7 @@ fit_opened es e table h k count count' f le inner o c own lt at = record {
   handles = opened _ _ _ (count_more (λ (x : TreeEntry). is_open x.kind) es e ∙ plus_one (count_by (λ (x : TreeEntry). is_open x.kind) es) (is_open e.kind) o)
       (count_more (λ (x : TreeEntry). is_close x.kind) es e ∙ plus (count_by (λ (x : TreeEntry). is_close x.kind) es) (is_close e.kind) c) f.handles (opened_some table h k lt at);
   inside = put_inside table h (Some k) count count' lt le (λ j e. subst (λ (x : Handle). x.item < count') (same j e) inner) f.inside;
-  alone = alone_more es e own f.alone;
+  made = made_more es e own f.made;
 } where
   opened : {opens opens' closes' : ℕ} (closes some some' : ℕ) → opens' ≡ opens + 1 → closes' ≡ closes → opens ≡ closes + some → some' ≡ some + 1 → opens' ≡ closes' + some'
   opened closes some some' x y z w = omega (arith, x, y, z, w)
@@ -178,13 +177,13 @@ fit_more es e table count f p own = record {
   handles = stays _ (count_more (λ (x : TreeEntry). is_open x.kind) es e ∙ plus (count_by (λ (x : TreeEntry). is_open x.kind) es) (is_open e.kind) p.no_open)
       (count_more (λ (x : TreeEntry). is_close x.kind) es e ∙ plus (count_by (λ (x : TreeEntry). is_close x.kind) es) (is_close e.kind) p.no_close) f.handles;
   inside = f.inside;
-  alone = alone_more es e own f.alone;
+  made = made_more es e own f.made;
 } where
   stays : {opens opens' closes closes' : ℕ} (had : ℕ) → opens' ≡ opens → closes' ≡ closes → opens ≡ closes + had → opens' ≡ closes' + had
   stays had x y z = omega (arith, x, y, z)
 
 -- a file of which neither the tree nor the table tells anything new
-tied_same : (es es' : List TreeEntry) (table table' : List (Option Handle)) (item : ℕ) (past : List Entry) → count_by (has_file item) table' ≡ count_by (has_file item) table
+pub tied_same : (es es' : List TreeEntry) (table table' : List (Option Handle)) (item : ℕ) (past : List Entry) → count_by (has_file item) table' ≡ count_by (has_file item) table
     → opened_in es' item ≡ opened_in es item → closed_in es' item ≡ closed_in es item → left_dirty es' item ≡ left_dirty es item → IsTied es table item past → IsTied es' table' item past
 tied_same es es' table table' item past t o c l s = record {
   handles = s.handles ∙ ap (λ n. count_of is_closed past + n) (sym t);
@@ -206,7 +205,7 @@ sound_plain es e paths files table s p own = let fit = fit_more es e table (leng
   tied = λ item. tied_same es (es ++ e ∷ []) table table item _ refl (opened_plain es e item p) (closed_plain es e item p) (left_plain es e item p) (s.tied item);
   handles = fit.handles;
   inside = s.inside;
-  alone = fit.alone;
+  made = fit.made;
 } where
   names : (ns : List (List ℕ)) (item : ℕ) → AllByRecursion (λ name. item_of es name ≡ Some item) ns → AllByRecursion (λ name. item_of (es ++ e ∷ []) name ≡ Some item) ns
   names [] item h = h
@@ -245,9 +244,9 @@ is_ready es paths files table handle k pass s h p =
 -- one of the files that is open goes on by an entry that opens and closes nothing and leaves it kept
 pub sound_grown : (es : List TreeEntry) (paths : List (List ℕ)) (files : List History) (table : List (Option Handle)) (handle : ℕ) (k : Handle) (by : By) (made : ℕ) (kind : FileKind) → IsSound es paths files table → file_at table handle ≡ Some k
     → by.who.actor ≡ Session 1 → by.pass ≡ 0 → IsUpTo by files
-    → kept_after kind true ≡ true → is_opened kind ≡ false → is_closed kind ≡ false → names_file kind ≡ false
+    → kept_after kind true ≡ true → is_opened kind ≡ false → is_closed kind ≡ false → names_file kind ≡ false → is_renaming kind ≡ false
     → IsSound es paths (add_to files k.item (in_file by false made kind ∷ []) []) table
-sound_grown es paths files table handle k by made kind s at own pass up kept o c n = record {
+sound_grown es paths files table handle k by made kind s at own pass up kept o c n still = record {
   size = s.size;
   found = s.found;
   count = s.count ∙ sym same_length;
@@ -258,7 +257,7 @@ sound_grown es paths files table handle k by made kind s at own pass up kept o c
   tied = λ i. tied i (eqb_tells i item);
   handles = s.handles;
   inside = λ h j e. omega (arith, same_length, s.inside h j e);
-  alone = s.alone;
+  made = s.made;
 } where
   item : ℕ
   item = k.item
@@ -281,7 +280,7 @@ sound_grown es paths files table handle k by made kind s at own pass up kept o c
   each : (i : ℕ) → ((eqb i k.item ≡ true) × (i ≡ k.item)) ⊎ ((eqb i k.item ≡ false) × (i ≢ k.item)) → i < length files → IsSoundFile (reverse (entries_in files' i))
   each i (inl h) l = subst (λ j. IsSoundFile (reverse (entries_in files' j))) (sym h.1) (subst IsSoundFile (sym (grown_past g)) (record {
     kept = ap (kept_after kind) (s.each k.item lt).kept ∙ kept;
-    own = own_step by false made kind past own pass (up k.item) (s.each k.item lt).own;
+    own = own_step by false made kind past own pass still (up k.item) (s.each k.item lt).own;
   }))
   each i (inr h) l = subst (λ x. IsSoundFile (reverse x)) (sym (g.others i h.1)) (s.each i l)
 
@@ -322,7 +321,7 @@ sound_shut es paths files table h k by made dirty s small at own pass up was = r
   tied = λ i. tied i (eqb_tells i k.item);
   handles = fit.handles;
   inside = λ handle j x. omega (arith, same_length, fit.inside handle j x);
-  alone = fit.alone;
+  made = fit.made;
 } where
   e : TreeEntry
   e = in_tree by (tree.Closed (record { 0 = k.item }) dirty)
@@ -351,7 +350,7 @@ sound_shut es paths files table h k by made dirty s small at own pass up was = r
   each : (i : ℕ) → ((eqb i k.item ≡ true) × (i ≡ k.item)) ⊎ ((eqb i k.item ≡ false) × (i ≢ k.item)) → i < length files → IsSoundFile (reverse (entries_in files' i))
   each i (inl q) l = subst (λ j. IsSoundFile (reverse (entries_in files' j))) (sym q.1) (subst IsSoundFile (sym (grown_past g)) (record {
     kept = (s.each k.item lt).kept;
-    own = own_step by true made file.Closed past own pass (up k.item) (s.each k.item lt).own;
+    own = own_step by true made file.Closed past own pass refl (up k.item) (s.each k.item lt).own;
   }))
   each i (inr q) l = subst (λ x. IsSoundFile (reverse x)) (sym (g.others i q.1)) (s.each i l)
 
@@ -398,9 +397,9 @@ kind_closes : (created : Bool) (path : List ℕ) (item : ℕ) (print : Option Fi
 kind_closes true path item print i = refl
 kind_closes false path item print i = refl
 
-kind_left : (created : Bool) (path : List ℕ) (item : ℕ) (print : Option Fingerprint) (i : ℕ) (old : Bool) → left_after (opened_kind created path item print) i old ≡ old
-kind_left true path item print i old = refl
-kind_left false path item print i old = refl
+kind_left : (created : Bool) (path : List ℕ) (item : ℕ) (print : Option Fingerprint) (file_at : List ℕ → Option ℕ) (i : ℕ) (old : Bool) → left_after (opened_kind created path item print) file_at i old ≡ old
+kind_left true path item print file_at i old = refl
+kind_left false path item print file_at i old = refl
 
 kind_open : (created : Bool) (path : List ℕ) (item : ℕ) (print : Option Fingerprint) → is_open (opened_kind created path item print) ≡ true
 kind_open true path item print = refl
@@ -424,14 +423,14 @@ pub sound_opened : (es : List TreeEntry) (paths paths' : List (List ℕ)) (files
     → is_kept (reverse (map (in_file by true made) kinds) ++ reverse (entries_in files k.item)) ≡ true
     → count_of is_opened (reverse (map (in_file by true made) kinds) ++ reverse (entries_in files k.item)) ≡ count_of is_opened (reverse (entries_in files k.item)) + 1
     → count_of is_closed (reverse (map (in_file by true made) kinds) ++ reverse (entries_in files k.item)) ≡ count_of is_closed (reverse (entries_in files k.item))
-    → IsOwnPast (reverse (entries_in files k.item))
+    → IsOwnPast (reverse (entries_in files k.item)) → AllByRecursion (λ (kind : FileKind). is_renaming kind ≡ false) kinds
     → length files ≤ length files' → k.item < length files' → ((i : ℕ) → i < length files' → i ≢ k.item → i < length files)
     → length files' ≤ length (es ++ in_tree by (opened_kind created path k.item print) ∷ []) → length paths' ≡ length files'
     → ((q : List ℕ) → position (same_text q) paths' ≡ item_of (es ++ in_tree by (opened_kind created path k.item print) ∷ []) q)
     → files_of (es ++ in_tree by (opened_kind created path k.item print) ∷ []) ≡ length files'
     → ((i : ℕ) → i < length files' → IsNamed (es ++ in_tree by (opened_kind created path k.item print) ∷ []) i (history_in files' i))
     → IsSound (es ++ in_tree by (opened_kind created path k.item print) ∷ []) paths' files' (set table h (Some k))
-sound_opened es paths paths' files files' table h k by made created path print kinds s small at own pass up g kept opens closes mine le inner below few count found numbered named = record {
+sound_opened es paths paths' files files' table h k by made created path print kinds s small at own pass up g kept opens closes mine still le inner below few count found numbered named = record {
   size = fit.size;
   found = found;
   count = count;
@@ -442,7 +441,7 @@ sound_opened es paths paths' files files' table h k by made created path print k
   tied = λ i. tied i (eqb_tells i k.item);
   handles = fit.handles;
   inside = fit.inside;
-  alone = fit.alone;
+  made = fit.made;
 } where
   e : TreeEntry
   e = in_tree by (opened_kind created path k.item print)
@@ -459,7 +458,7 @@ sound_opened es paths paths' files files' table h k by made created path print k
   each : (i : ℕ) → ((eqb i k.item ≡ true) × (i ≡ k.item)) ⊎ ((eqb i k.item ≡ false) × (i ≢ k.item)) → i < length files' → IsSoundFile (reverse (entries_in files' i))
   each i (inl q) l = subst (λ j. IsSoundFile (reverse (entries_in files' j))) (sym q.1) (subst IsSoundFile (sym (grown_past g)) (record {
     kept = kept;
-    own = own_all by true made kinds past own pass (up k.item) mine;
+    own = own_all by true made kinds past own pass still (up k.item) mine;
   }))
   each i (inr q) l = subst (λ x. IsSoundFile (reverse x)) (sym (g.others i q.1)) (s.each i (below i l q.1))
 
@@ -479,7 +478,7 @@ sound_opened es paths paths' files files' table h k by made created path print k
   open_one opens closes opens' closes' had z a b c = absurd (omega (arith, z, a, b, c))
 
   left_same : (i : ℕ) → left_dirty (es ++ e ∷ []) i ≡ left_dirty es i
-  left_same i = left_more es e i ∙ kind_left created path k.item print i (left_dirty es i)
+  left_same i = left_more es e i ∙ kind_left created path k.item print (item_of es) i (left_dirty es i)
 
   tied : (i : ℕ) → ((eqb i k.item ≡ true) × (i ≡ k.item)) ⊎ ((eqb i k.item ≡ false) × (i ≢ k.item)) → IsTied (es ++ e ∷ []) (set table h (Some k)) i (reverse (entries_in files' i))
   tied i (inl q) = let t = s.tied k.item in subst (λ j. IsTied (es ++ e ∷ []) (set table h (Some k)) j (reverse (entries_in files' j))) (sym q.1) (subst (IsTied (es ++ e ∷ []) (set table h (Some k)) k.item) (sym (grown_past g)) (record {

@@ -88,12 +88,12 @@ pub stands_back : (tells shows : Type 0) (limit n : ℕ) (item : Item) (told : T
     → ((known : Known) → Fits shows known item.log.past item.pairs → IsOfImage known item.slot.told.first → (k : ℕ) → k ≤ item.slot.calls
     → StandsFor known item.saved.mtime (image_after item.slot.told k) (place item.log.past k) (names_at item.log.past k item.names))
     → ItemStands shows item told
-stands_back tells shows limit n item told s t e counted images known holds k le =
+stands_back tells shows limit n item told s t e counted images known fits k le =
     subst (λ l. StandsFor known 0 (image_after told k) (place l k) (names_at l k (reverse (reverse item.names)))) (sym (reverse-reverse item.log.past))
     (subst (λ l. StandsFor known 0 (image_after told k) (place item.log.past k) (names_at item.log.past k l)) (sym (reverse-reverse item.names))
     (subst (λ x. StandsFor known 0 (image_after x k) (place item.log.past k) (names_at item.log.past k item.names)) (sym e)
     (subst (λ m. StandsFor known m (image_after item.slot.told k) (place item.log.past k) (names_at item.log.past k item.names)) (ap (λ (x : Saved). x.mtime) s.fresh)
-    (images known (record { given = holds; saved = s.whole known }) of_image k (omega (arith, le, ap (λ (x : Told). length x.since) e, counted)))))) where
+    (images known fits of_image k (omega (arith, le, ap (λ (x : Told). length x.since) e, counted)))))) where
       of_image : IsOfImage known item.slot.told.first
       of_image text meta there means = absurd (never (sym (s.blank t) ∙ there)) where
         never : None ≡ Some text → ⊥

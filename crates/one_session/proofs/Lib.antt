@@ -10,10 +10,13 @@ pub mod Handles
 pub mod Held
 pub mod Items
 pub mod Keeping
+pub mod Leaving
 pub mod Lending
 pub mod Listings
+pub mod Makers
 pub mod Meeting
 pub mod Numbering
+pub mod Others
 pub mod Owed
 pub mod PathLists
 pub mod Putting
@@ -21,6 +24,9 @@ pub mod Queued
 pub mod ReadsDone
 pub mod Refusing
 pub mod Rest
+pub mod Saving
+pub mod Sending
+pub mod Sent
 pub mod Served
 pub mod Serving
 pub mod Shelves
@@ -28,4 +34,5 @@ pub mod Starts
 pub mod Stepping
 pub mod Tables
 pub mod Trees
+pub mod Turning
 pub mod Waiting

@@ -30,11 +30,11 @@ put_same owed n b i e = tell (eqb_tells n i) where
   tell (inl h) = ap (λ t. cond t b (owed i)) h.0 ∙ sym e ∙ ap owed h.1
   tell (inr h) = ap (λ t. cond t b (owed i)) h.0
 
-all_end : {A : Type 0} (P : A → Type 0) (xs : List A) (x : A) → AllByRecursion P xs → P x → AllByRecursion P (xs ++ x ∷ [])
+pub all_end : {A : Type 0} (P : A → Type 0) (xs : List A) (x : A) → AllByRecursion P xs → P x → AllByRecursion P (xs ++ x ∷ [])
 all_end P [] x all p = (p, tt)
 all_end P (y ∷ xs) x all p = (all.0, all_end P xs x all.1 p)
 
-gone_is : (t m : Bool) → (not t && m) ≡ cond t false m
+pub gone_is : (t m : Bool) → (not t && m) ≡ cond t false m
 gone_is true m = refl
 gone_is false m = refl
 

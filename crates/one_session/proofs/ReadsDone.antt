@@ -11,7 +11,7 @@ use Rattle.vfs_names.specs.declared.who.Actor.TheVariants.{Session}
 use Rattle.vfs_names.specs.declared.who.By.{By}
 use Rattle.vfs_names.specs.declared.who.ItemId.{ItemId}
 use Rattle.vfs_outside.specs.Image.{meta_in}
-use Rattle.item_core.specs.Content.{Known, bytes_at}
+use Rattle.item_core.specs.Content.{IsSavedWhole, Known, bytes_at}
 use Rattle.item_core.specs.History.{size_of}
 use Rattle.item_core.specs.declared.entry.FileKind.TheVariants as file
 use Rattle.item_image.specs.Premise.{IsOfImage}
@@ -23,7 +23,7 @@ use Rattle.session_text.specs.declared.reply.Record.{Record}
 use Rattle.session_text.specs.declared.reply.Reply.TheVariants as reply
 use Rattle.one_session.specs.Books.{ReadsBook, TouchesOne}
 use Rattle.one_session.specs.Calls.{AnswersRead, free_in, in_file}
-use Rattle.one_session.specs.Causes.{AreGiven}
+use Rattle.one_session.specs.Causes.{AreGiven, AreSaved}
 use Rattle.one_session.specs.Did.{Did}
 use Rattle.one_session.specs.Served.{Knows}
 use Rattle.one_session.specs.Standing.{IsSoundStore, state_of, step_between}
@@ -44,10 +44,10 @@ pub of_blank : (known : Known) (kept : Type 0) (item : Item) → (kept → meta_
 of_blank known kept item blank k text meta is means = absurd (none-some text (sym (blank k) ∙ is))
 
 pub read_calm : (pos len : ℕ) → IsCalm (file.Read pos len)
-read_calm pos len = record { kept = refl; no_open = refl; no_close = refl; no_name = refl; no_save = refl }
+read_calm pos len = record { kept = refl; no_open = refl; no_close = refl; no_name = refl; no_move = refl }
 
 pub refused_calm : (v : Verb) (why : Refusal) → IsCalm (file.Refused v why)
-refused_calm v why = record { kept = refl; no_open = refl; no_close = refl; no_name = refl; no_save = refl }
+refused_calm v why = record { kept = refl; no_open = refl; no_close = refl; no_name = refl; no_move = refl }
 
 module _ {O S F : Type 0} (kept tells : Type 0) (plan : Plan) (old new : Store O S F) (handle pos len n : ℕ) (k : Handle) (by : By) (done : Record)
     (s : IsSoundStore kept old) (at : file_at old.table.items handle ≡ Some k) (own : by.who.actor ≡ Session 1) (pass : by.pass ≡ 0) (up : IsUpTo by (histories old.files.items))
@@ -84,10 +84,11 @@ module _ {O S F : Type 0} (kept tells : Type 0) (plan : Plan) (old new : Store O
       limit = limit;
     }
 
-    pub read_did : (handed : List (Fingerprint × List ℕ)) → AreGiven tells handed (given_all old.files.items) → Did 1 (Knows kept tells handed) by (call.Read handle pos len) done (state_of old [] [] 0) (state_of new [] [] 0)
-    read_did handed given = read_done (Knows kept tells handed) by done (state_of old [] [] 0) (state_of new [] [] 0) handle pos len n is.slot.calls k found entered answer
+    pub read_did : (handed : List (Fingerprint × List ℕ)) → AreGiven tells handed (given_all old.files.items) → AreSaved kept tells handed (histories old.files.items)
+        → Did 1 (Knows kept tells handed) by (call.Read handle pos len) done (state_of old [] [] 0) (state_of new [] [] 0)
+    read_did handed given saved = read_done (Knows kept tells handed) by done (state_of old [] [] 0) (state_of new [] [] 0) handle pos len n is.slot.calls k found entered answer
         (read.count ∙ ap (λ l. min len (size_of l - pos)) (sym past))
-        (λ known h. read.bytes h.0 known (record { given = given_at tells handed old.files.items k.item known given inside h.1; saved = (s.items k.item lt).whole known }) (of_blank known kept was (s.items k.item lt).blank h.0)
+        (λ known h. read.bytes h.0 known (record { given = given_at tells handed old.files.items k.item known given inside h.1; saved = subst (IsSavedWhole known) past (saved h.0 known h.1 k.item) }) (of_blank known kept was (s.items k.item lt).blank h.0)
         ∙ ap (λ l. bytes_at known l pos (min len (size_of l - pos))) (sym past))
 
     pub read_sound : IsSoundStore kept new

@@ -1,7 +1,12 @@
 -- What a call does goes on from what was served.
-use Rattle.std.proofs.Common.{◌≡◌, ◌≤◌, ℕ, ◌++◌, ◌∙◌, ap, sym, refl, subst, inl, inr, arith, Bool, Option, None, Some, List, [], ◌∷◌, length, take, reverse, map, length-append, append-nil}
+use Rattle.std.proofs.Common.{◌≡◌, ◌≤◌, ℕ, ◌+◌, ◌++◌, ◌∙◌, ap, sym, refl, subst, inl, inr, arith, Bool, Option, None, Some, List, [], ◌∷◌, length, take, reverse, map, length-append, append-nil}
 use Rattle.std.specs.Prelude.{IsSomeAnd}
+use Rattle.std.specs.List.{AllByRecursion}
+use Rattle.std.proofs.Math.ListN.{drop_of_length-le}
+use Rattle.std.proofs.Math.Seq.{take-append_seam}
 use Rattle.std.proofs.lemmas.List.{take-append-le, map-append, reverse-append}
+use Rattle.vfs_names.specs.declared.refusal.Refusal.TheVariants as why
+use Rattle.session_text.specs.declared.reply.Reply.TheVariants as reply
 use Rattle.vfs_names.specs.declared.calls.How.{How}
 use Rattle.vfs_names.specs.declared.fingerprint.Fingerprint.{Fingerprint}
 use Rattle.vfs_names.specs.declared.who.Actor.TheVariants.{Session}
@@ -21,11 +26,11 @@ use Rattle.session_text.specs.declared.reply.Record.{Record}
 use Rattle.one_session.specs.Calls.{AfterLook, IsFull, Answers, AnswersOpen, AnswersRead, AnswersWrite, AnswersSize, AnswersClose, in_tree, OpenAdds, OpensPath, ReadsLatest, TreeDoes, FileDoes, WasDirty, WasHeld}
 use Rattle.one_session.specs.Did.{Did, Grows}
 use Rattle.one_session.specs.Matching.{entries_of}
-use Rattle.one_session.specs.Served.{place_in, AreFull, end_after, file_then, reached, tree_then, Served, Fits, TreeMatches, FileMatches, in_tree_of, in_file_of, tree_place, file_place, open_at, open_after}
+use Rattle.one_session.specs.Served.{place_in, AreFull, EndsWithin, StoodAt, WasFull, end_after, file_phase, reached, tree_phase, Served, Fits, TreeMatches, FileMatches, in_tree_of, in_file_of, tree_place, file_place, open_at, open_after}
 use Rattle.one_session.specs.State.{State, History, entries_in, file_at, item_at}
 use Rattle.one_session.specs.Tree.{item_of}
 use Rattle.one_session.specs.declared.handle.Handle.{Handle}
-use Rattle.one_session.proofs.Going.{take_whole, stays, more_none, more_some}
+use Rattle.one_session.proofs.Going.{stays, more_none, more_some}
 
 -- what a file held before a place stays when files go on
 held_stays : (files files' : List History) (item k : ℕ) (print : Option Fingerprint) → ((i : ℕ) → (more : List Entry) × (entries_in files' i ≡ entries_in files i ++ more)) → WasHeld files item k print → WasHeld files' item k print
@@ -66,7 +71,7 @@ dirty_in : (files files' : List History) (added : List TreeEntry) (by : By) (f :
 dirty_in files files' added by None on h = h
 dirty_in files files' added by (Some f) on h = (h.0, h.1, dirty_stays files files' f.0.0 f.1 h.0 on h.2)
 
-tree_stays : (by : By) (files files' : List History) (done : Record) (c : Call) (before added : List TreeEntry) → ((i : ℕ) → (more : List Entry) × (entries_in files' i ≡ entries_in files i ++ more))
+pub tree_stays : (by : By) (files files' : List History) (done : Record) (c : Call) (before added : List TreeEntry) → ((i : ℕ) → (more : List Entry) × (entries_in files' i ≡ entries_in files i ++ more))
     → TreeDoes by files c done before added → TreeDoes by files' c done before added
 tree_stays by files files' done (call.Open h path how) before added on d = open_stays files files' by path how done before added on d
 tree_stays by files files' done (call.Read h pos len) before added on d = d
@@ -103,10 +108,33 @@ answers_along a b (call.Rename from to) done e x = x
 records_of : (older : List Served) (d : Served) → map (λ (d : Served). d.done) (reverse (d ∷ older)) ≡ map (λ (d : Served). d.done) (reverse older) ++ d.done ∷ []
 records_of older d = ap (map (λ (d : Served). d.done)) (reverse-append (d ∷ []) older) ∙ map-append (λ (d : Served). d.done) (reverse older) (d ∷ [])
 
--- where a history ends after a call
-ended : {E : Type 0} (belongs : E → ℕ → Bool) (session : ℕ) (does : List E → List E → Type 0) (place : Option ℕ) (before : ℕ) (old new : List E) → Grows belongs session does place old new → before ≡ length old → end_after place before ≡ length new
-ended belongs session does place before old new (inl h) e = ap (λ p. end_after p before) h.1 ∙ e ∙ sym (ap length h.0)
-ended belongs session does place before old new (inr h) e = ap (λ p. end_after p before) h.3 ∙ grind (arith, ap length h.2, length-append old (h.0 ++ h.1 ∷ []), length-append h.0 (h.1 ∷ []))
+-- how far the calls reach after one more
+ended : {E : Type 0} (belongs : E → ℕ → Bool) (session : ℕ) (does : List E → List E → Type 0) (place : Option ℕ) (before : ℕ) (old new : List E) → Grows belongs session does place old new → EndsWithin belongs session before old → EndsWithin belongs session (end_after place before) new
+ended belongs session does place before old new (inl h) e =
+    subst (λ p. EndsWithin belongs session (end_after p before) new) (sym h.1) (subst (EndsWithin belongs session before) (sym h.0) e)
+ended belongs session does place before old new (inr h) e = let end : end_after place before ≡ length new = ap (λ p. end_after p before) h.3 ∙ whole in record {
+  inside = omega (arith, end);
+  others = ap (entries_of belongs session) (drop_of_length-le new (omega (arith, end)));
+} where
+  whole : end_after (Some (length old + length h.0)) before ≡ length new
+  whole = grind (arith, ap length h.2, length-append old (h.0 ++ h.1 ∷ []), length-append h.0 (h.1 ∷ []), e.inside)
+
+-- a history that stood so stands so in a longer one
+stood_longer : {E : Type 0} (belongs : E → ℕ → Bool) (phase_of : E → ℕ) (session phase reached n : ℕ) (history more new : List E) → new ≡ history ++ more → StoodAt belongs phase_of session phase reached n history → StoodAt belongs phase_of session phase reached n new
+stood_longer {E} belongs phase_of session phase reached n history more new is s = let same : take n new ≡ take n history = ap (take n) is ∙ take-append-le n history more s.inside in record {
+  inside = omega (arith, s.inside, ap length is, length-append history more);
+  within = subst (EndsWithin belongs session reached) (sym same) s.within;
+  no_later = subst (AllByRecursion (λ (e : E). phase_of e ≤ phase)) (sym same) s.no_later;
+}
+
+-- all of a history stands now
+stood_now : {E : Type 0} (belongs : E → ℕ → Bool) (phase_of : E → ℕ) (session phase reached : ℕ) (history more new : List E) → new ≡ history ++ more → EndsWithin belongs session reached history → AllByRecursion (λ (e : E). phase_of e ≤ phase) history
+    → StoodAt belongs phase_of session phase reached (length history) new
+stood_now {E} belongs phase_of session phase reached history more new is e later = let same : take (length history) new ≡ history = ap (take (length history)) is ∙ take-append_seam history more in record {
+  inside = omega (arith, ap length is, length-append history more);
+  within = subst (EndsWithin belongs session reached) (sym same) e;
+  no_later = subst (AllByRecursion (λ (e : E). phase_of e ≤ phase)) (sym same) later;
+}
 
 -- too few places, where the histories and handles are spelled otherwise
 full_along : (l l' : ℕ) (a b : List TreeEntry) (f g : ℕ → List Entry) (o p : ℕ → Option Handle) (c : Call) → l ≡ l' → a ≡ b → ((i : ℕ) → f i ≡ g i) → ((h : ℕ) → o h ≡ p h) → IsFull l' b g p c → IsFull l a f o c
@@ -123,30 +151,28 @@ full_along l l' a b f g o p (call.RemoveDir path) m e k q x = x
 full_along l l' a b f g o p (call.Unlink path) m e k q x = x
 full_along l l' a b f g o p (call.Rename from to) m e k q x = x
 
--- a history doesn't end sooner after a call
-end_grows : (place : Option ℕ) (older n : ℕ) → end_after place older ≤ n → older ≤ n
-end_grows None older n le = le
-end_grows (Some k) older n le = omega (arith, le)
-
 -- causes stay when the histories go on
-full_stays : (served : List Served) (l' l : ℕ) (tree tree' : List TreeEntry) (files files' : List History) → l' ≡ l → (more : List TreeEntry) → tree' ≡ tree ++ more → ((i : ℕ) → (more : List Entry) × (entries_in files' i ≡ entries_in files i ++ more))
-    → reached tree_place served ≤ length tree → ((i : ℕ) → reached (file_place i) served ≤ length (entries_in files i)) → AreFull l tree files served → AreFull l' tree' files' served
-full_stays [] l' l tree tree' files files' e more on go in_tree in_file a = tt
-full_stays (d ∷ served) l' l tree tree' files files' e more on go in_tree in_file a =
-    let ends : reached tree_place served ≤ length tree = end_grows (tree_place d) (reached tree_place served) (length tree) in_tree in
-    let ends_in : (i : ℕ) → reached (file_place i) served ≤ length (entries_in files i) = λ i. end_grows (file_place i d) (reached (file_place i) served) (length (entries_in files i)) (in_file i) in (
-      λ h. full_along l' l (tree_then tree' served) (tree_then tree served) (file_then files' served) (file_then files served) (open_at served) (open_at served) d.line.call e
-          (ap (take (reached tree_place served)) on ∙ take-append-le (reached tree_place served) tree more ends)
-          (λ i. ap (take (reached (file_place i) served)) (go i).1 ∙ take-append-le (reached (file_place i) served) (entries_in files i) (go i).0 (ends_in i))
-          (λ h. refl) (a.0 h),
-      full_stays served l' l tree tree' files files' e more on go ends ends_in a.1,
-    )
+pub full_stays : (session : ℕ) (served : List Served) (l' l : ℕ) (tree tree' : List TreeEntry) (files files' : List History) → l' ≡ l → (more : List TreeEntry) → tree' ≡ tree ++ more → ((i : ℕ) → (more : List Entry) × (entries_in files' i ≡ entries_in files i ++ more))
+    → AreFull session l tree files served → AreFull session l' tree' files' served
+full_stays session [] l' l tree tree' files files' e more on go a = tt
+full_stays session (d ∷ served) l' l tree tree' files files' e more on go a = (λ h. still (a.0 h), full_stays session served l' l tree tree' files files' e more on go a.1) where
+  still : WasFull session l tree files d served → WasFull session l' tree' files' d served
+  still w = record {
+    tree = w.tree;
+    file = w.file;
+    tree_stood = stood_longer in_tree_of tree_phase session d.by.who.phase (reached tree_place served) w.tree tree more tree' on w.tree_stood;
+    file_stood = λ i. stood_longer in_file_of file_phase session d.by.who.phase (reached (file_place i) served) (w.file i) (entries_in files i) (go i).0 (entries_in files' i) (go i).1 (w.file_stood i);
+    full = full_along l' l (take w.tree tree') (take w.tree tree) (λ i. take (w.file i) (entries_in files' i)) (λ i. take (w.file i) (entries_in files i)) (open_at served) (open_at served) d.line.call e
+        (ap (take w.tree) on ∙ take-append-le w.tree tree more w.tree_stood.inside)
+        (λ i. ap (take (w.file i)) (go i).1 ∙ take-append-le (w.file i) (entries_in files i) (go i).0 (w.file_stood i).inside)
+        (λ h. refl) w.full;
+  }
 
 -- what a call does to a file is so by fewer contents
 latest_stays : (holds holds' : Known → Type 0) → ((known : Known) → holds' known → holds known) → (before : List Entry) (pos len : ℕ) (found : List ℕ) → ReadsLatest holds before pos len found → ReadsLatest holds' before pos len found
 latest_stays holds holds' fewer before pos len found r = record { count = r.count; latest = λ known h. r.latest known (fewer known h) }
 
-file_stays : (holds holds' : Known → Type 0) → ((known : Known) → holds' known → holds known) → (by : By) (c : Call) (done : Record) (before added : List Entry) → FileDoes holds by c done before added → FileDoes holds' by c done before added
+pub file_stays : (holds holds' : Known → Type 0) → ((known : Known) → holds' known → holds known) → (by : By) (c : Call) (done : Record) (before added : List Entry) → FileDoes holds by c done before added → FileDoes holds' by c done before added
 file_stays holds holds' fewer by (call.Open h path how) done before added d = d
 file_stays holds holds' fewer by (call.Read h pos len) done before added (inl d) = inl ((d.0.0, d.0.1, latest_stays holds holds' fewer before pos len d.0.0 d.0.2), d.1)
 file_stays holds holds' fewer by (call.Read h pos len) done before added (inr d) = inr d
@@ -165,7 +191,8 @@ pub holds_part : (tells : Type 0) (more pairs : List (Fingerprint × List ℕ)) 
 holds_part tells [] pairs known h = h
 holds_part tells (p ∷ more) pairs known h = holds_part tells more pairs known h.1
 
-module _ (session : ℕ) (holds holds' : Known → Type 0) (fewer : (known : Known) → holds' known → holds known) (by : By) (line : CallLine) (done : Record) (s t : State) (own : by.who.actor ≡ Session session) (numbered : done.line ≡ line.line) (did : Did session holds' by line.call done s t) where
+module _ (session : ℕ) (holds holds' : Known → Type 0) (fewer : (known : Known) → holds' known → holds known) (by : By) (line : CallLine) (done : Record) (s t : State) (own : by.who.actor ≡ Session session) (numbered : done.line ≡ line.line) (did : Did session holds' by line.call done s t)
+    (tree_later : AllByRecursion (λ (e : TreeEntry). tree_phase e ≤ by.who.phase) s.tree) (file_later : (item : ℕ) → AllByRecursion (λ (e : Entry). file_phase e ≤ by.who.phase) (entries_in s.files item)) where
   files_on : (i : ℕ) → (more : List Entry) × (entries_in t.files i ≡ entries_in s.files i ++ more)
   files_on i = grown in_file_of session (FileDoes holds' by line.call done) _ _ _ (did.in_file i)
 
@@ -200,15 +227,21 @@ module _ (session : ℕ) (holds holds' : Known → Type 0) (fewer : (known : Kno
   handle_by : (older : List Served) (handle : ℕ) → Fits session holds older s → file_at t.table handle ≡ open_at (record { by = by; line = line; done = done } ∷ older) handle
   handle_by older handle f = did.handles handle ∙ ap (open_after line.call done handle) (f.handles handle)
 
-  full_by : (older : List Served) → Fits session holds older s → AreFull t.limit t.tree t.files (record { by = by; line = line; done = done } ∷ older)
-  full_by older f =
-      let more_tree = grown in_tree_of session (TreeDoes by t.files line.call done) done.tree s.tree t.tree did.in_tree in
-      let tree : tree_then t.tree older ≡ s.tree = ap (λ l. take (reached tree_place older) l) more_tree.1 ∙ take_whole s.tree more_tree.0 _ f.tree_end in
-      let file : (i : ℕ) → file_then t.files older i ≡ entries_in s.files i = λ i. ap (λ l. take (reached (file_place i) older) l) (files_on i).1 ∙ take_whole (entries_in s.files i) (files_on i).0 _ (f.file_end i) in (
-        λ e. full_along t.limit s.limit (tree_then t.tree older) s.tree (file_then t.files older) (entries_in s.files) (open_at older) (file_at s.table) line.call
-            did.limit tree file (λ h. sym (f.handles h)) (did.full e),
-        full_stays older t.limit s.limit s.tree t.tree s.files t.files did.limit more_tree.0 more_tree.1 files_on (omega (arith, f.tree_end)) (λ i. omega (arith, f.file_end i)) f.matching.full,
-      )
+  full_by : (older : List Served) → Fits session holds older s → AreFull session t.limit t.tree t.files (record { by = by; line = line; done = done } ∷ older)
+  full_by older f = (λ e. now e, full_stays session older t.limit s.limit s.tree t.tree s.files t.files did.limit more_tree.0 more_tree.1 files_on f.matching.full) where
+    more_tree : (more : List TreeEntry) × (t.tree ≡ s.tree ++ more)
+    more_tree = grown in_tree_of session (TreeDoes by t.files line.call done) done.tree s.tree t.tree did.in_tree
+
+    now : done.reply ≡ reply.Refused why.HistoryFull → WasFull session t.limit t.tree t.files (record { by = by; line = line; done = done }) older
+    now e = record {
+      tree = length s.tree;
+      file = λ i. length (entries_in s.files i);
+      tree_stood = stood_now in_tree_of tree_phase session by.who.phase (reached tree_place older) s.tree more_tree.0 t.tree more_tree.1 f.tree_end tree_later;
+      file_stood = λ i. stood_now in_file_of file_phase session by.who.phase (reached (file_place i) older) (entries_in s.files i) (files_on i).0 (entries_in t.files i) (files_on i).1 (f.file_end i) (file_later i);
+      full = full_along t.limit s.limit (take (length s.tree) t.tree) s.tree (λ i. take (length (entries_in s.files i)) (entries_in t.files i)) (entries_in s.files) (open_at older) (file_at s.table) line.call
+          did.limit (ap (take (length s.tree)) more_tree.1 ∙ take-append_seam s.tree more_tree.0)
+          (λ i. ap (take (length (entries_in s.files i))) (files_on i).1 ∙ take-append_seam (entries_in s.files i) (files_on i).0) (λ h. sym (f.handles h)) (did.full e);
+    }
 
   pub goes : t.records ≡ s.records ++ done ∷ [] → (older : List Served) → Fits session holds older s → Fits session holds' (record { by = by; line = line; done = done } ∷ older) t
   goes e older f = record {

@@ -19,7 +19,7 @@ use Rattle.item_core.specs.declared.entry.FileKind.TheVariants as file
 use Rattle.item_core.specs.Effects.{is_opened, is_closed}
 use Rattle.item_core.specs.History.{count_of, is_kept}
 use Rattle.one_session.specs.Calls.{Begins, in_file, in_tree}
-use Rattle.one_session.specs.Sound.{IsOwnPast, IsSound, has_file, has_some}
+use Rattle.one_session.specs.Sound.{IsOwnPast, IsSound, has_file, has_some, is_renaming}
 use Rattle.one_session.specs.Start.{MayStart, front_of, named_by, opened_kind, opening}
 use Rattle.one_session.specs.State.{History, entries_in, file_at, history_in, names_in}
 use Rattle.one_session.specs.Tree.{files_of, item_of}
@@ -45,6 +45,12 @@ module _ {O S : Type 0} (print_of : O → Fingerprint) (by : By) (access : Acces
   start_closed Create past = refl
   start_closed (Bind object) past = refl
   start_closed (Adopt object) past = refl
+
+  pub start_still : (start : Start O S) → AllByRecursion (λ (kind : FileKind). is_renaming kind ≡ false) (front_of print_of start ++ file.Opened access ∷ [])
+  start_still Kept = (refl, tt)
+  start_still Create = (refl, (refl, tt))
+  start_still (Bind object) = (refl, (refl, tt))
+  start_still (Adopt object) = (refl, (refl, tt))
 
   pub start_kept : (start : Start O S) (past : List Entry) → MayStart print_of start past → is_kept (reverse (opening by access made (front_of print_of start)) ++ past) ≡ true
   start_kept Kept past may = may
@@ -128,7 +134,7 @@ module _ {O S : Type 0} (print_of : O → Fingerprint) (es : List TreeEntry) (pa
   pub sound_again : (item : ℕ) → item < length files → item_of es path ≡ Some item → MayStart print_of start (reverse (entries_in files item))
       → IsSound (es ++ in_tree by (opened_kind created path item print) ∷ []) paths (add_to files item more (named_by path start)) (set table h (Some (record { item = item; access = access })))
   sound_again item lt is may = sound_opened es paths paths files files' table h (record { item = item; access = access }) by made created path print kinds s small at own pass up g
-      (start_kept print_of by access made start past may) (start_opened print_of by access made start past) (start_closed print_of by access made start past) (s.each item lt).own
+      (start_kept print_of by access made start past may) (start_opened print_of by access made start past) (start_closed print_of by access made start past) (s.each item lt).own (start_still print_of by access made start)
       (omega (arith, same_length)) (omega (arith, same_length, lt)) (λ i l ne. omega (arith, same_length, l)) (omega (arith, same_length, s.few, length-append es (e ∷ []))) (s.count ∙ sym same_length)
       (λ q. s.found q ∙ found q) (files_more es e ∙ kind_files created path item print (files_of es) ∙ ap (λ n. max n (item + 1)) s.numbered ∙ most (length files) item lt ∙ sym same_length)
       (λ i l. named i (either i item) (omega (arith, same_length, l))) where
@@ -176,7 +182,7 @@ module _ {O S : Type 0} (print_of : O → Fingerprint) (es : List TreeEntry) (pa
   sound_new is may = sound_opened es paths (paths ++ path ∷ []) files files' table h (record { item = length files; access = access }) by made created path print kinds s small at own pass up g
       (subst (λ l. is_kept (reverse more ++ l) ≡ true) (sym none) (start_kept print_of by access made start [] may))
       (start_opened print_of by access made start past) (start_closed print_of by access made start past)
-      (subst IsOwnPast (sym none) (record { pass = refl; alone = refl; timely = tt }))
+      (subst IsOwnPast (sym none) (record { pass = refl; made = tt; unmoved = tt; timely = tt })) (start_still print_of by access made start)
       (omega (arith, longer)) (omega (arith, longer)) (λ i l ne. below i l ne) (omega (arith, longer, s.few, length-append es (e ∷ []))) (length-append paths (path ∷ []) ∙ ap (λ n. n + 1) s.count ∙ sym longer)
       found (files_more es e ∙ kind_files created path (length files) print (files_of es) ∙ ap (λ n. max n (length files + 1)) s.numbered ∙ most (length files) ∙ sym longer)
       (λ i l. named i (either i (length files)) l) where
@@ -240,5 +246,5 @@ sound_none es paths files table a b c d = rw (a, b, c, d) (record {
   tied = λ item. record { handles = sym (ap (λ n. 0 + n) (count_none (has_file item) 256 refl)); opened = refl; closed = refl; rest = λ e. refl };
   handles = sym (ap (λ n. 0 + n) (count_none has_some 256 refl));
   inside = λ handle k e. absurd (none-some k (sym (none_open 256 handle) ∙ e));
-  alone = refl;
+  made = tt;
 })

@@ -129,7 +129,7 @@ module _ (tells : Type 0) (old new : List Item) (i : ℕ) (lt : i < length old) 
 
   pub room_items : (limit limit' : ℕ) → limit' ≡ limit → ((n : ℕ) → n < length old → IsSoundItem tells limit n (item_in old n)) → (n : ℕ) → n < length new → IsSoundItem tells limit' n (item_in new n)
   room_items limit limit' e all = subst (λ l. (n : ℕ) → n < length new → IsSoundItem tells l n (item_in new n)) (sym e)
-      (items_on tells limit old new i one lt (sound_on tells limit i (item_in old i) (item_in new i) [] (all i lt) room_same room_past tt) all)
+      (items_on tells limit old new i one lt (sound_on tells limit i (item_in old i) (item_in new i) [] (all i lt) room_same room_past) all)
 
 -- An open that couldn't begin its file, after what it listed: for the disk, which the tree says then, or for memory.
 module _ (by : By) (own : List ℕ) (before after : List TreeEntry) (place listed : Option ℕ) (why : Refusal) where

@@ -32,7 +32,7 @@ item_more es e path = ap (λ l. item_back l path) (reverse-append es (e ∷ []))
 pub files_more : (es : List TreeEntry) (e : TreeEntry) → files_of (es ++ e ∷ []) ≡ files_after e.kind (files_of es)
 files_more es e = ap files_back (reverse-append es (e ∷ []))
 
-pub left_more : (es : List TreeEntry) (e : TreeEntry) (item : ℕ) → left_dirty (es ++ e ∷ []) item ≡ left_after e.kind item (left_dirty es item)
+pub left_more : (es : List TreeEntry) (e : TreeEntry) (item : ℕ) → left_dirty (es ++ e ∷ []) item ≡ left_after e.kind (item_of es) item (left_dirty es item)
 left_more es e item = ap (λ l. left_back l item) (reverse-append es (e ∷ []))
 
 pub opened_more : (es : List TreeEntry) (e : TreeEntry) (item : ℕ) → opened_in (es ++ e ∷ []) item ≡ opened_in es item + cond (opens_item item e.kind) 1 0
@@ -45,20 +45,20 @@ closed_more es e item = count_more (λ (e : TreeEntry). closes_item item e.kind)
 pub record IsPlain (kind : TreeKind) : Type 0 where
   pub item : (path : List ℕ) (old : Option ℕ) → item_after kind path old ≡ old
   pub files : (old : ℕ) → files_after kind old ≡ old
-  pub left : (item : ℕ) (old : Bool) → left_after kind item old ≡ old
+  pub left : (file_at : List ℕ → Option ℕ) (item : ℕ) (old : Bool) → left_after kind file_at item old ≡ old
   pub opens : (item : ℕ) → opens_item item kind ≡ false
   pub closes : (item : ℕ) → closes_item item kind ≡ false
   pub no_open : is_open kind ≡ false
   pub no_close : is_close kind ≡ false
 
 pub plain_listed : (dir : List ℕ) (listing : Listing) → IsPlain (tree.Listed dir listing)
-plain_listed dir listing = record { item = λ path old. refl; files = λ old. refl; left = λ item old. refl; opens = λ item. refl; closes = λ item. refl; no_open = refl; no_close = refl }
+plain_listed dir listing = record { item = λ path old. refl; files = λ old. refl; left = λ file_at item old. refl; opens = λ item. refl; closes = λ item. refl; no_open = refl; no_close = refl }
 
 pub plain_gone : (path : List ℕ) → IsPlain (tree.Gone path)
-plain_gone path = record { item = λ path old. refl; files = λ old. refl; left = λ item old. refl; opens = λ item. refl; closes = λ item. refl; no_open = refl; no_close = refl }
+plain_gone path = record { item = λ path old. refl; files = λ old. refl; left = λ file_at item old. refl; opens = λ item. refl; closes = λ item. refl; no_open = refl; no_close = refl }
 
 pub plain_refused : (verb : Verb) (path : List ℕ) (why : Refusal) → IsPlain (tree.Refused verb path why)
-plain_refused verb path why = record { item = λ path old. refl; files = λ old. refl; left = λ item old. refl; opens = λ item. refl; closes = λ item. refl; no_open = refl; no_close = refl }
+plain_refused verb path why = record { item = λ path old. refl; files = λ old. refl; left = λ file_at item old. refl; opens = λ item. refl; closes = λ item. refl; no_open = refl; no_close = refl }
 
 plus_none : (n : ℕ) (b : Bool) → b ≡ false → n + cond b 1 0 ≡ n
 plus_none n b e = rw e (omega arith)
@@ -71,7 +71,7 @@ pub closed_plain : (es : List TreeEntry) (e : TreeEntry) (item : ℕ) → IsPlai
 closed_plain es e item p = closed_more es e item ∙ plus_none (closed_in es item) (closes_item item e.kind) (p.closes item)
 
 pub left_plain : (es : List TreeEntry) (e : TreeEntry) (item : ℕ) → IsPlain e.kind → left_dirty (es ++ e ∷ []) item ≡ left_dirty es item
-left_plain es e item p = left_more es e item ∙ p.left item (left_dirty es item)
+left_plain es e item p = left_more es e item ∙ p.left (item_of es) item (left_dirty es item)
 
 pub item_plain : (es : List TreeEntry) (e : TreeEntry) (path : List ℕ) → IsPlain e.kind → item_of (es ++ e ∷ []) path ≡ item_of es path
 item_plain es e path p = item_more es e path ∙ p.item path (item_of es path)

@@ -9,12 +9,13 @@ use Rattle.vfs_outside.specs.Outside.{Outside}
 use Rattle.vfs_outside.specs.declared.tree.TreeEntry.{TreeEntry}
 use Rattle.vfs_outside.specs.declared.tree.TreeKind.{TreeKind}
 use Rattle.vfs_outside.specs.declared.tree.TreeKind.TheVariants.{Gone}
-use Rattle.item_core.specs.Content.{Known}
+use Rattle.item_core.specs.Content.{IsSavedWhole, Known}
 use Rattle.item_image.specs.Premise.{Holds}
 use Rattle.session_script.specs.declared.call.Call.{Call}
 use Rattle.session_script.specs.declared.call.Call.TheVariants as call
 use Rattle.session_text.specs.declared.reply.Record.{Record}
 use Rattle.session_text.specs.declared.reply.Reply.TheVariants as reply
+use Rattle.one_session.specs.State.{History, entries_in}
 use Rattle.one_session.specs.Tree.{shown}
 
 -- the newest entry says that the object at the path is gone
@@ -58,6 +59,10 @@ pub record HasRemoteCause (call : Call) (done : Record) (tree : List TreeEntry) 
   pub more : List (Fingerprint × List ℕ)
   pub handed : new.handed ≡ more ++ old.handed
   pub cause : CauseOf call done tree old new
+
+-- each upload of a file saved the content that the file had then, by the contents that hold what the store handed out
+abbrev pub AreSaved : Type 0 → Type 0 → List (Fingerprint × List ℕ) → List History → Type 0
+AreSaved kept tells handed files = kept → (known : Known) → Holds tells handed known → (item : ℕ) → IsSavedWhole known (reverse (entries_in files item))
 
 -- a map of contents that holds what the store handed out holds what each file was given
 abbrev pub AreGiven : Type 0 → List (Fingerprint × List ℕ) → List (List (Fingerprint × List ℕ)) → Type 0

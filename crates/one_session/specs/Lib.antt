@@ -6,6 +6,7 @@ pub mod Logs
 pub mod Looking
 pub mod Matching
 pub mod Queued
+pub mod Sending
 pub mod Served
 pub mod Slots
 pub mod Sound
@@ -15,5 +16,6 @@ pub mod State
 pub mod Steps
 pub mod Tree
 pub mod TreeFacts
+pub mod Turns
 pub mod Views
 pub mod Whole

@@ -15,7 +15,7 @@ use Rattle.session_text.specs.declared.reply.Reply.{Reply}
 use Rattle.session_text.specs.declared.reply.Reply.TheVariants as reply
 use Rattle.writeback_queue.specs.declared.entry.QueueEntry.{QueueEntry}
 use Rattle.writeback_queue.specs.declared.entry.QueueKind.{QueueKind}
-use Rattle.writeback_queue.specs.declared.entry.QueueKind.TheVariants.{Add, Remove, SetDue}
+use Rattle.writeback_queue.specs.declared.entry.QueueKind.TheVariants.{Add, Remove, SetDue, Take, Fail}
 use Rattle.writeback_queue.specs.declared.entry.QueueTerms.{QueueTerms}
 use Rattle.writeback_queue.specs.History.{due_moment, fails_of, is_member, is_uploading}
 use Rattle.writeback_queue.specs.Legal.{IsLegal}
@@ -78,6 +78,14 @@ queue_step write_back by (call.Write h pos payload) done step = news_of write_ba
 queue_step write_back by (call.Size h size) done step = news_of write_back by done.reply done.file step
 queue_step write_back by (call.Close h) done step = news_of write_back by done.reply done.file step
 queue_step write_back by _ done step = []
+
+-- what ends the turn of a file: Remove where it was saved, and else Fail
+abbrev pub settled_by : By → ℕ → Bool → List QueueEntry
+settled_by by item saved = if saved then entry (book_by by item) (Remove (id_of item)) else entry by (Fail (id_of item))
+
+-- what its turn enters
+abbrev pub turn_by : By → ℕ → Bool → List QueueEntry
+turn_by by item saved = entry by (Take (id_of item)) ++ settled_by by item saved
 
 -- an item is due when the write-back time is over that began as it was entered
 abbrev pub IsDueAfter : ℕ → By → QueueKind → Type 0

@@ -1,5 +1,5 @@
 -- How a session's calls, records and handles match the histories.
-use Rattle.std.specs.Prelude.{◌≡◌, ◌≢◌, ◌+◌, ◌++◌, ℕ, ◌==◌, ◌&&◌, Bool, true, false, Option, Some, None, List, [], ◌∷◌, length, map, max, reverse, take, if◌then◌else◌}
+use Rattle.std.specs.Prelude.{◌≡◌, ◌≢◌, ◌≤◌, ◌+◌, ◌++◌, ℕ, ◌==◌, ◌&&◌, Bool, true, false, Option, Some, None, List, [], ◌∷◌, drop, length, map, max, reverse, take, if◌then◌else◌}
 use Rattle.std.specs.List.{AllByRecursion}
 use Rattle.vfs_names.specs.declared.fingerprint.Fingerprint.{Fingerprint}
 use Rattle.vfs_names.specs.declared.who.Actor.{Actor}
@@ -90,26 +90,44 @@ TreeMatches session files history = Matches in_tree_of tree_place (λ older d be
 abbrev pub FileMatches : (Known → Type 0) → ℕ → ℕ → List Entry → List Served → List Entry → Type 0
 FileMatches holds item session history = Matches in_file_of (file_place item) (λ older d before added. FileDoes holds d.by d.line.call d.done before added) session history
 
--- the length of a history to which these calls alone added, the newest first: it ends after the greatest of their places
+-- how far some calls, the newest first, reach in a history: to the end of the entry at the greatest of their places
 abbrev pub reached : (Served → Option ℕ) → List Served → ℕ
 reached place [] = 0
 reached place (d ∷ older) = end_after (place d) (reached place older)
 
--- the history of the tree, and that of each file, as some calls left them that alone added to them
-abbrev pub tree_then : List TreeEntry → List Served → List TreeEntry
-tree_then history served = take (reached tree_place served) history
+-- calls that reach so far reach no further than the history, and nothing behind them is the session's
+pub record EndsWithin {E : Type 0} (belongs : E → ℕ → Bool) (session reached : ℕ) (history : List E) : Type 0 where
+  pub inside : reached ≤ length history
+  pub others : entries_of belongs session (drop reached history) ≡ []
 
-abbrev pub file_then : List History → List Served → ℕ → List Entry
-file_then files served item = take (reached (file_place item) served) (entries_in files item)
+-- A history had its first n entries when a call was made, in a phase, after calls that reach so far: behind those there is
+-- nothing of the session's, and nothing in them was done in a later phase.
+pub record StoodAt {E : Type 0} (belongs : E → ℕ → Bool) (phase_of : E → ℕ) (session phase reached n : ℕ) (history : List E) : Type 0 where
+  pub inside : n ≤ length history
+  pub within : EndsWithin belongs session reached (take n history)
+  pub no_later : AllByRecursion (λ (e : E). phase_of e ≤ phase) (take n history)
+
+abbrev pub tree_phase : TreeEntry → ℕ
+tree_phase e = e.by.who.phase
+
+abbrev pub file_phase : Entry → ℕ
+file_phase e = e.by.who.phase
+
+-- as the tree's history and those of the files stood when a call was made, after these, too few places were free
+pub record WasFull (session limit : ℕ) (history : List TreeEntry) (files : List History) (d : Served) (older : List Served) : Type 0 where
+  pub tree : ℕ
+  pub file : ℕ → ℕ
+  pub tree_stood : StoodAt in_tree_of tree_phase session d.by.who.phase (reached tree_place older) tree history
+  pub file_stood : (item : ℕ) → StoodAt in_file_of file_phase session d.by.who.phase (reached (file_place item) older) (file item) (entries_in files item)
+  pub full : IsFull limit (take tree history) (λ item. take (file item) (entries_in files item)) (open_at older) d.line.call
 
 -- a call that was refused since a history is full had too few free places when it was made
-abbrev pub AreFull : ℕ → List TreeEntry → List History → List Served → Type 0
-AreFull limit history files [] = Unit {0}
-AreFull limit history files (d ∷ older) =
-    (d.done.reply ≡ reply.Refused why.HistoryFull → IsFull limit (tree_then history older) (file_then files older) (open_at older) d.line.call)
-    × AreFull limit history files older
+abbrev pub AreFull : ℕ → ℕ → List TreeEntry → List History → List Served → Type 0
+AreFull session limit history files [] = Unit {0}
+AreFull session limit history files (d ∷ older) =
+    (d.done.reply ≡ reply.Refused why.HistoryFull → WasFull session limit history files d older) × AreFull session limit history files older
 
--- What a session's calls, the newest first, left, where nobody else calls: each call was answered as its handles stood,
+-- What a session's calls, the newest first, left, where no other session calls: each call was answered as its handles stood,
 -- and for the tree and for each file the session's entries are, call by call, those that the call adds, its place is the
 -- last of them, and its reply is the answer there, by the contents that hold what was handed out. Where a call was refused
 -- since a history is full, too few of that many places were free.
@@ -118,15 +136,15 @@ pub record IsServed (session : ℕ) (holds : Known → Type 0) (limit : ℕ) (se
   pub answered : AreAnswered served
   pub tree : TreeMatches session files history served (entries_of in_tree_of session history)
   pub file : (item : ℕ) → FileMatches holds item session (entries_in files item) served (entries_of in_file_of session (entries_in files item))
-  pub full : AreFull limit history files served
+  pub full : AreFull session limit history files served
 
 -- the state is what these calls left, the newest first
 pub record Fits (session : ℕ) (holds : Known → Type 0) (served : List Served) (s : State) : Type 0 where
   pub matching : IsServed session holds s.limit served s.tree s.files
   pub handles : (handle : ℕ) → file_at s.table handle ≡ open_at served handle
   pub records : s.records ≡ map (λ (d : Served). d.done) (reverse served)
-  pub tree_end : reached tree_place served ≡ length s.tree
-  pub file_end : (item : ℕ) → reached (file_place item) served ≡ length (entries_in s.files item)
+  pub tree_end : EndsWithin in_tree_of session (reached tree_place served) s.tree
+  pub file_end : (item : ℕ) → EndsWithin in_file_of session (reached (file_place item) served) (entries_in s.files item)
 
 -- the cache tells its data, and the contents are those of the objects that the store handed out, which tell them
 abbrev pub Knows : Type 0 → Type 0 → List (Fingerprint × List ℕ) → Known → Type 0
@@ -140,6 +158,7 @@ pub record Serves (session : ℕ) (kept tells : Type 0) (before after : List (Fi
   pub limit : t.limit ≡ s.limit
   pub more : List TreeEntry
   pub grew : t.tree ≡ s.tree ++ more
+  pub made : AllByRecursion (λ (e : TreeEntry). e.by ≡ by) more
 
 -- the calls that can be served: an open of a path that isn't the root, to read, or to read and write, a read, a write, a set size and a close
 abbrev pub IsServable : Call → Type 0

@@ -3,10 +3,10 @@ use Rattle.std.specs.Prelude.{◌≡◌, ◌<◌, ◌≤◌, ℕ, true, false, N
 use Rattle.vfs_outside.specs.Disk.{Disk}
 use Rattle.vfs_outside.specs.Image.{meta_in}
 use Rattle.vfs_outside.specs.Slot.{Told, image, image_after}
-use Rattle.item_core.specs.Content.{IsSavedWhole, Known}
+use Rattle.item_core.specs.Content.{Known}
 use Rattle.item_core.specs.History.{place}
 use Rattle.item_core.specs.Names.{names_at}
-use Rattle.item_image.specs.Premise.{Holds, Pairs}
+use Rattle.item_image.specs.Premise.{Fits, Holds, Pairs}
 use Rattle.item_image.specs.Stands.{StandsFor}
 use Rattle.sparse_item.specs.Item.{Item}
 use Rattle.sparse_item.specs.Sound.{is_begun}
@@ -18,14 +18,13 @@ pub record Lends (tells : Type 0) (n : ℕ) (disk : Disk) : Type 0 where
   pub here : (slot : ℕ) → n ≤ slot → disk.out slot ≡ false
   pub blank : tells → (slot : ℕ) → n ≤ slot → meta_in (image (disk.shelf slot).now) ≡ None
 
--- a file has so many places and the slot of its number, which had no metadata when it was taken; it was opened, and nothing of it was saved
--- before the epoch or uploaded
+-- a file has so many places and the slot of its number, which had no metadata when it was taken; it was opened, and nothing
+-- of it was saved before the epoch
 pub record IsSoundItem (tells : Type 0) (limit n : ℕ) (item : Item) : Type 0 where
   pub slot : item.slot_id.0 ≡ n
   pub places : item.log.limit ≡ limit
   pub begun : is_begun item.log.past ≡ true
   pub blank : tells → meta_in item.slot.told.first ≡ None
-  pub whole : (known : Known) → IsSavedWhole known item.log.past
   pub fresh : item.saved ≡ record { mtime = 0; atime = 0 }
 
 -- a file of which no entry was made yet, just taken from the slot of its number
@@ -45,9 +44,9 @@ abbrev pub EachStands : Known → History → Told → Type 0
 EachStands known file told = (k : ℕ) → k ≤ length told.since
     → StandsFor known 0 (image_after told k) (place (reverse file.entries) k) (names_at (reverse file.entries) k (reverse file.names))
 
--- so it is for a file by the contents of the objects that it was given
+-- so it is for a file by the contents of the objects that it was given, and that were uploaded of it
 abbrev pub ItemStands : Type 0 → Item → Told → Type 0
-ItemStands tells item told = (known : Known) → Holds tells item.pairs known
+ItemStands tells item told = (known : Known) → Fits tells known item.log.past item.pairs
     → EachStands known (record { entries = reverse item.log.past; names = reverse item.names }) told
 
 -- so it is for each file, by the contents that hold what the store handed out

@@ -4,14 +4,14 @@ use Rattle.std.specs.List.{AllByRecursion, count_by, position}
 use Rattle.vfs_names.specs.Path.{same_text}
 use Rattle.vfs_outside.specs.declared.tree.TreeEntry.{TreeEntry}
 use Rattle.item_core.specs.declared.entry.Entry.{Entry}
+use Rattle.item_core.specs.declared.entry.FileKind.{FileKind}
+use Rattle.item_core.specs.declared.entry.FileKind.TheVariants.{Rename}
 use Rattle.item_core.specs.Effects.{is_opened, is_closed}
 use Rattle.item_core.specs.History.{count_of, is_dirty, is_kept, made_by, opens_of}
 use Rattle.item_core.specs.Legal.{IsTimely}
-use Rattle.one_session.specs.Matching.{entries_of}
-use Rattle.one_session.specs.Served.{in_file_of, in_tree_of}
 use Rattle.one_session.specs.State.{History, entries_in, file_at, history_in}
 use Rattle.one_session.specs.Tree.{closed_in, files_of, is_open, is_close, item_of, left_dirty, opened_in}
-use Rattle.one_session.specs.Whole.{IsNamed}
+use Rattle.one_session.specs.Whole.{IsMade, IsMadeInTree, IsNamed}
 use Rattle.one_session.specs.declared.handle.Handle.{Handle}
 
 -- a handle has this file open
@@ -23,10 +23,15 @@ abbrev pub has_some : Option Handle → Bool
 has_some None = false
 has_some (Some handle) = true
 
--- the session made the history, in the order of time
+abbrev pub is_renaming : FileKind → Bool
+is_renaming (Rename path) = true
+is_renaming _ = false
+
+-- the session and the program's uploads made the history, in the order of time, and nothing in it moved the file
 pub record IsOwnPast (past : List Entry) : Type 0 where
   pub pass : made_by 0 past ≡ past
-  pub alone : entries_of in_file_of 1 (reverse past) ≡ reverse past
+  pub made : AllByRecursion (IsMade 1) past
+  pub unmoved : AllByRecursion (λ (e : Entry). is_renaming e.kind ≡ false) past
   pub timely : IsTimely past
 
 -- the file has as many open handles as the table has, the tree tells how often it was opened and closed, and, where no
@@ -54,4 +59,4 @@ pub record IsSound (tree : List TreeEntry) (paths : List (List ℕ)) (files : Li
   pub tied : (item : ℕ) → IsTied tree table item (reverse (entries_in files item))
   pub handles : count_by (λ (e : TreeEntry). is_open e.kind) tree ≡ count_by (λ (e : TreeEntry). is_close e.kind) tree + count_by has_some table
   pub inside : (handle : ℕ) (opened : Handle) → file_at table handle ≡ Some opened → opened.item < length files
-  pub alone : entries_of in_tree_of 1 tree ≡ tree
+  pub made : AllByRecursion (IsMadeInTree 1) tree

@@ -1,6 +1,7 @@
 -- What each call did to the files: where its entry stands among the calls on its slot's file, what it asked of the object
 -- behind its file, and why it was refused for that object or for the cache disk.
-use Rattle.std.specs.Prelude.{◌≡◌, ◌⊎◌, ◌+◌, ℕ, ◌++◌, Bool, true, Option, Some, None, List, [], ◌∷◌, Result, Ok, Err, IfSome, IsSomeAnd, OnOk}
+use Rattle.std.specs.Prelude.{◌≡◌, ◌⊎◌, ◌<◌, ◌≤◌, ◌+◌, ℕ, ◌++◌, Bool, true, Option, Some, None, List, [], ◌∷◌, length, take, Result, Ok, Err, IfSome, IsSomeAnd, OnOk}
+use Rattle.std.specs.List.{AllByRecursion}
 use Rattle.byte_ranges.specs.Ranges.{has}
 use Rattle.vfs_names.specs.Payload.{payload_len}
 use Rattle.vfs_names.specs.declared.payload.Payload.{Payload}
@@ -9,8 +10,13 @@ use Rattle.vfs_names.specs.declared.refusal.Refusal.TheVariants as why
 use Rattle.vfs_names.specs.declared.who.By.{By}
 use Rattle.vfs_names.specs.declared.who.ItemId.{ItemId}
 use Rattle.vfs_outside.specs.Causes.{Rose}
+use Rattle.vfs_outside.specs.Outside.{Outside}
+use Rattle.vfs_outside.specs.declared.tree.TreeEntry.{TreeEntry}
 use Rattle.item_core.specs.declared.entry.Entry.{Entry}
 use Rattle.item_core.specs.History.{base_end_of}
+use Rattle.item_core.specs.Names.{name_of}
+use Rattle.item_upload.specs.Whole.{IfSaved, is_saved}
+use Rattle.item_upload.specs.declared.whole.Ended.{Ended}
 use Rattle.downloaders.specs.declared.Ask.{Ask}
 use Rattle.downloaders.specs.declared.Plan.{Plan}
 use Rattle.downloaders.specs.Orders.{here_in_the_end}
@@ -26,10 +32,13 @@ use Rattle.session_text.specs.declared.reply.Record.{Record}
 use Rattle.session_text.specs.declared.reply.Reply.{Reply}
 use Rattle.session_text.specs.declared.reply.Reply.TheVariants as reply
 use Rattle.writeback_queue.specs.declared.entry.QueueEntry.{QueueEntry}
+use Rattle.one_session.specs.Books.{TouchesOne}
 use Rattle.one_session.specs.Calls.{IsOfDevice}
-use Rattle.one_session.specs.Queued.{queue_step}
+use Rattle.one_session.specs.Queued.{queue_step, turn_by}
+use Rattle.one_session.specs.Sending.{Sends}
 use Rattle.one_session.specs.Served.{Served, open_at}
 use Rattle.one_session.specs.State.{State, Step, file_at, item_in}
+use Rattle.one_session.specs.Tree.{free_places}
 use Rattle.one_session.specs.declared.handle.Handle.{Handle}
 
 -- the number of the call on the slot's file by which a call of a session took effect: for a write that of its save, and
@@ -97,17 +106,47 @@ abbrev pub QueuesStep : By → Call → Record → State → State → Type 0
 QueuesStep by call done s t = (t.terms ≡ s.terms)
     × (t.queue ≡ s.queue ++ queue_step s.terms.write_back by call done (record { before = s.items; after = t.items }))
 
--- what some calls, the newest first, entered in the queue
-abbrev pub queue_after : ℕ → List Served → List Step → List QueueEntry
-queue_after write_back [] steps = []
-queue_after write_back (d ∷ older) [] = []
-queue_after write_back (d ∷ older) (step ∷ earlier) = queue_after write_back older earlier ++ queue_step write_back d.by d.line.call d.done step
+-- an upload: of which file, to which path, how it ended, and what the store told before it and after it
+pub record Upload : Type 0 where
+  pub item : ℕ
+  pub path : List ℕ
+  pub ended : Ended
+  pub old : Outside
+  pub new : Outside
 
--- What some calls, the newest first, did to the files: each found those that the one before it left, the first none, and the
+-- what is done to the files: a call is served, or a file that is due is uploaded
+pub data Deed : Type 0 where
+  Serving : Served → Deed
+  Sending : By → Upload → Deed
+
+-- what some deeds, the newest first, entered in the queue
+abbrev pub queue_after : ℕ → List Deed → List Step → List QueueEntry
+queue_after write_back [] steps = []
+queue_after write_back (Serving d ∷ older) [] = []
+queue_after write_back (Serving d ∷ older) (step ∷ earlier) = queue_after write_back older earlier ++ queue_step write_back d.by d.line.call d.done step
+queue_after write_back (Sending by u ∷ older) steps = queue_after write_back older steps ++ turn_by by u.item (is_saved u.ended)
+
+-- the history of the tree was full for an upload when it was to begin: too few places were free behind what was done till then
+pub record WasFullFor (limit : ℕ) (by : By) (tree : List TreeEntry) : Type 0 where
+  pub n : ℕ
+  pub inside : n ≤ length tree
+  pub no_later : AllByRecursion (λ (e : TreeEntry). e.by.who.phase ≤ by.who.phase) (take n tree)
+  pub full : free_places limit (take n tree) < 1
+
+-- an upload did this to the files: it sent its file to the file's path, and touched no other
+pub record SendsFile (kept tells : Type 0) (limit : ℕ) (tree : List TreeEntry) (by : By) (u : Upload) (before after : List Item) : Type 0 where
+  pub inside : u.item < length before
+  pub one : TouchesOne u.item before after
+  pub path : IfSaved u.ended (λ print. name_of (item_in before u.item).log.past (item_in before u.item).names ≡ Some u.path)
+  pub sends : Sends kept tells tells by (WasFullFor limit by tree) (item_in before u.item) (item_in after u.item) u.old u.new u.ended
+
+-- What some deeds, the newest first, did to the files: each found those that the one before it left, the first none, and the
 -- newest left these.
-abbrev pub AreSteps : Plan → ℕ → ℕ → List Item → List Served → List Step → Type 0
-AreSteps plan disk disk' left [] [] = left ≡ []
-AreSteps plan disk disk' left [] (step ∷ earlier) = ⊥
-AreSteps plan disk disk' left (d ∷ older) [] = ⊥
-AreSteps plan disk disk' left (d ∷ older) (step ∷ earlier) = (step.after ≡ left) × IsPlaced d.line.call d.done step
-    × Touches plan disk disk' d.line.call d.done step × AreSteps plan disk disk' step.before older earlier
+abbrev pub AreSteps : (By → Upload → List Item → List Item → Type 0) → Plan → ℕ → ℕ → List Item → List Deed → List Step → Type 0
+AreSteps sends plan disk disk' left [] [] = left ≡ []
+AreSteps sends plan disk disk' left [] (step ∷ earlier) = ⊥
+AreSteps sends plan disk disk' left (Serving d ∷ older) [] = ⊥
+AreSteps sends plan disk disk' left (Serving d ∷ older) (step ∷ earlier) = (step.after ≡ left) × IsPlaced d.line.call d.done step
+    × Touches plan disk disk' d.line.call d.done step × AreSteps sends plan disk disk' step.before older earlier
+AreSteps sends plan disk disk' left (Sending by u ∷ older) steps =
+    (before : List Item) × sends by u before left × AreSteps sends plan disk disk' before older steps

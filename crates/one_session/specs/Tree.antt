@@ -5,7 +5,7 @@ use Rattle.vfs_names.specs.Path.{same_text}
 use Rattle.vfs_names.specs.declared.fingerprint.Fingerprint.{Fingerprint}
 use Rattle.vfs_outside.specs.declared.tree.TreeEntry.{TreeEntry}
 use Rattle.vfs_outside.specs.declared.tree.TreeKind.{TreeKind}
-use Rattle.vfs_outside.specs.declared.tree.TreeKind.TheVariants.{Listed, Created, Opened, Closed, Gone}
+use Rattle.vfs_outside.specs.declared.tree.TreeKind.TheVariants.{Listed, Created, Opened, Closed, Stored, Gone}
 use Rattle.shown_rows.specs.Shown.{shown_by}
 use Rattle.shown_rows.specs.declared.Shown.{Shown}
 use Rattle.shown_rows.specs.declared.Shown.TheVariants.{Object}
@@ -19,18 +19,24 @@ lists_root _ = false
 abbrev pub is_listed : List TreeEntry → Bool
 is_listed tree = list_any (λ (e : TreeEntry). lists_root e.kind) tree
 
+-- the entry says that an object was stored
+abbrev pub is_stored : TreeKind → Bool
+is_stored (Stored path print) = true
+is_stored _ = false
+
 -- a row that is there has this fingerprint
 abbrev pub reprinted : Fingerprint → Option Shown → Option Shown
 reprinted print None = None
 reprinted print (Some row) = Some (Object print)
 
 -- What the root shows at a path after an entry: the row of its listing, which is gone once the object was found gone, and
--- has the fingerprint of the object that an opened file holds.
+-- has the fingerprint of the object that an opened file holds; and an object that was stored.
 abbrev pub shown_after : TreeKind → List ℕ → Option Shown → Option Shown
 shown_after (Listed dir listing) path old = if same_text dir [] then shown_by listing.rows path else old
 shown_after (Gone name) path old = if same_text name path then None else old
 shown_after (Opened name item (Some print)) path old = if same_text name path then reprinted print old else old
 shown_after (Opened name item None) path old = old
+shown_after (Stored name print) path old = if same_text name path then Some (Object print) else old
 shown_after _ path old = old
 
 abbrev pub shown_back : List TreeEntry → List ℕ → Option Shown
@@ -96,14 +102,19 @@ opened_in tree item = count_by (λ (e : TreeEntry). opens_item item e.kind) tree
 abbrev pub closed_in : List TreeEntry → ℕ → ℕ
 closed_in tree item = count_by (λ (e : TreeEntry). closes_item item e.kind) tree
 
--- the last close of a file left it dirty
-abbrev pub left_after : TreeKind → ℕ → Bool → Bool
-left_after (Closed other dirty) item old = if other.0 == item then dirty else old
-left_after _ item old = old
+abbrev pub is_item : ℕ → Option ℕ → Bool
+is_item item None = false
+is_item item (Some other) = other == item
+
+-- the last close of a file left it dirty, and it wasn't stored since as the object at its path
+abbrev pub left_after : TreeKind → (List ℕ → Option ℕ) → ℕ → Bool → Bool
+left_after (Closed other dirty) file_at item old = if other.0 == item then dirty else old
+left_after (Stored name print) file_at item old = if is_item item (file_at name) then false else old
+left_after _ file_at item old = old
 
 abbrev pub left_back : List TreeEntry → ℕ → Bool
 left_back [] item = false
-left_back (e ∷ older) item = left_after e.kind item (left_back older item)
+left_back (e ∷ older) item = left_after e.kind (item_back older) item (left_back older item)
 
 abbrev pub left_dirty : List TreeEntry → ℕ → Bool
 left_dirty tree item = left_back (reverse tree) item

@@ -13,12 +13,13 @@ use Rattle.vfs_outside.specs.declared.tree.TreeKind.TheVariants.{Created, Opened
 pub use Rattle.one_session.specs.State.{blank, item_in}
 use Rattle.one_session.specs.State.{History, entries_in, names_in}
 
--- the tree's entries, the oldest first; the most places that there may be; and the places for which room is made, those
--- that are kept for the closes of open handles aside
+-- the tree's entries, the oldest first; the most places that there may be; the places for which room is made, those
+-- that are kept for the closes of open handles aside; and how many names more the root can show without taking memory
 pub record TreeLog : Type 0 where
   pub entries : List TreeEntry
   pub limit : ℕ
   pub spare : ℕ
+  pub names : ℕ
 
 -- the places that an entry takes: an open handle keeps one for its close
 abbrev pub tree_places : TreeKind → ℕ

@@ -1,4 +1,4 @@
-ghost use Rattle.std.specs.Prelude.{◌≡◌, ◌≢◌, ◌⊎◌, ◌<◌, ◌≤◌, ◌+◌, ◌-◌, ◌^◌, ◌↔◌, ◌++◌, ◌||◌, ℕ, [], ◌∷◌, true, false, nat_lt, length, map, reverse, OnOk, IfOk, IfErr, OnErr, vec_len, vec_capacity};
+ghost use Rattle.std.specs.Prelude.{◌≡◌, ◌≢◌, ◌⊎◌, ◌<◌, ◌≤◌, ◌+◌, ◌-◌, ◌^◌, ◌↔◌, ◌++◌, ◌||◌, ℕ, [], ◌∷◌, true, false, nat_lt, length, map, reverse, OnOk, IfOk, IfErr, IfNone, IfSome, IsOk, Err, OnErr, vec_len, vec_capacity};
 ghost use Rattle.downloaders.specs.Rules.{HasChunk};
 ghost use Rattle.item_core.specs.History.{held_by, is_dirty, is_kept, is_owed, opens_by, opens_of};
 ghost use Rattle.item_core.specs.Log.{free};
@@ -12,19 +12,22 @@ ghost use Rattle.one_session.specs.Queued.{IsQueued, owed_in, queue_news, queue_
 ghost use Rattle.one_session.specs.Slots.{IsSoundItem, ItemStands, Lends};
 ghost use Rattle.one_session.specs.Start.{MayStart, front_of, given_by, named_by};
 ghost use Rattle.one_session.specs.State.{History, entries_in};
+ghost use Rattle.one_session.specs.Turns.{TakesTurn};
 ghost use Rattle.one_session.specs.Views.{given_all, histories, item_in, stored};
+ghost use Rattle.writeback_queue.specs.Queue.{IsIdle};
 ghost use Rattle.sparse_item.specs.Sound.{is_begun};
 
 use crate::log::FileLog;
-use crate::queue::{begins, rests, rows_of, settle_close, withdraw};
+use crate::queue::{begins, rests, rows_of, settle_close, settle_turn, withdraw};
 use crate::start::{Start, begin};
+use crate::turn::{Turn, send};
 use base_object::BaseState;
 use downloaders::Plan;
 use sparse_item::{ItemBook, Parts};
 use std::alloc::Global;
 use std::marker::Model;
 use vfs_names::{Access, At, Blob, By, Fingerprint, NoMemory, Payload, QueueRow, Refusal, VPath};
-use vfs_outside::{CacheDisk, CacheFile, Object};
+use vfs_outside::{CacheDisk, CacheFile, Object, Remote};
 use writeback_queue::{QueueBook, QueueEntry, QueueTerms};
 
 /// The places of the queue that a close may need.
@@ -303,6 +306,54 @@ impl<O: Object, F: CacheFile> Files<O, F> {
         let sized = self.files[item as usize].set_size(by, size);
         withdraw(&mut self.queue, by, item, sized.is_ok());
         sized
+    }
+}
+
+impl<O: Object, F: CacheFile> Files<O, F> {
+    /// Uploads the file whose turn is first, where one is due, to the object at its path. For what is said of it in the
+    /// tree room was made or not. Where memory for the queue is wanting no turn is taken.
+    pub(crate) fn upload_next<R: Remote<Object = O>>(
+        &mut self,
+        alloc: Global,
+        remote: &mut R,
+        plan: &Plan,
+        by: By,
+        ready: Result<(), Refusal>,
+    ) -> Result<Option<Turn>, NoMemory>
+        requires now { by.now ≤ 2 ^ 62 }
+        requires transfers { 0 < self.old.queue.terms.transfers }
+        requires chunk { HasChunk plan.now.chunk }
+        requires kept { (n : ℕ) → n < length self.old.items
+            → is_kept (item_in self.old.items n).log.past ≡ true }
+        requires begun { (n : ℕ) → n < length self.old.items
+            → is_begun (item_in self.old.items n).log.past ≡ true }
+        requires causes { IfErr ready (λ why. (why ≡ Refusal.HistoryFull)
+            ⊎ (why ≡ Refusal.NoMemory)) }
+        ensures turn { IfOk result (λ turn. IfSome turn (TakesTurn F.tells R.tells O.tells by
+            (ready ≡ Err Refusal.HistoryFull) (IsOk ready) self.old self.new
+            (R.outside remote.old) (R.outside remote.new))) }
+        ensures none { IfOk result (λ turn. IfNone turn (IsIdle self.old.queue by.now)) }
+        ensures still { IfOk result (λ turn. IfNone turn (R.outside remote.new ≡ R.outside remote.old)) }
+        ensures items { IfOk result (λ turn. IfNone turn (self.new.items ≡ self.old.items)) }
+        ensures queue { IfOk result (λ turn. IfNone turn
+            (self.new.queue.entries ≡ self.old.queue.entries)) }
+        ensures err { OnErr result (self.new ≡ self.old) }
+        ensures err_still { OnErr result (R.outside remote.new ≡ R.outside remote.old) }
+        ensures limit { self.new.limit ≡ self.old.limit }
+        ensures terms { self.new.queue.terms ≡ self.old.queue.terms }
+    {
+        let Ok(()) = self.queue.reserve(PLACES) else {
+            return Err(NoMemory);
+        };
+        match self.queue.take(by) {
+            Some(item) => {
+                let file = &mut self.files[item.0 as usize];
+                let turn = send(alloc, file, remote, plan, by, ready);
+                settle_turn(&mut self.queue, by, item.0, turn.is_stored());
+                Ok(Some(turn))
+            }
+            None => Ok(None),
+        }
     }
 }
 

@@ -20,6 +20,8 @@ mod step;
 mod store;
 mod tree;
 mod tree_entry;
+mod turn;
+mod uploads;
 
 pub use handle::Handle;
 pub use laws::what_a_call_does_matches;

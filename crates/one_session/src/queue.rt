@@ -3,7 +3,7 @@ ghost use Rattle.vfs_names.specs.declared.who.ItemId.{ItemId};
 ghost use Rattle.writeback_queue.specs.History.{is_member, is_uploading};
 ghost use Rattle.writeback_queue.specs.Legal.{IsLegal};
 ghost use Rattle.writeback_queue.specs.Queue.{past_of};
-ghost use Rattle.one_session.specs.Queued.{awaited_by, began_by, book_by, id_of, item_rows, owed_item, rested_by, row_at, row_if, withdrawn_by};
+ghost use Rattle.one_session.specs.Queued.{awaited_by, began_by, book_by, id_of, item_rows, owed_item, rested_by, row_at, row_if, settled_by, withdrawn_by};
 
 use sparse_item::ItemBook;
 use std::alloc::Global;
@@ -68,6 +68,21 @@ pub(crate) fn settle_close(queue: &mut QueueBook, by: By, item: u32, rests: bool
         await_upload(queue, by, item);
     } else {
         let _count = queue.len();
+    }
+}
+
+/// Ends the turn of a file that was taken: it leaves the queue where it was saved, and else waits again, for longer.
+pub(crate) fn settle_turn(queue: &mut QueueBook, by: By, item: u32, saved: bool)
+    requires now { by.now ≤ 2 ^ 62 }
+    requires uploads { is_uploading (past_of queue.old) (id_of item) ≡ true }
+    ensures entries { queue.new.entries ≡ queue.old.entries ++ settled_by by item saved }
+    ensures terms { queue.new.terms ≡ queue.old.terms }
+    ensures legal { IsLegal queue.new.terms (past_of queue.new) }
+{
+    if saved {
+        queue.remove(book_by(by, item), ItemId(item));
+    } else {
+        queue.fail(by, ItemId(item));
     }
 }
 

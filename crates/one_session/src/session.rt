@@ -1,15 +1,19 @@
-ghost use Rattle.std.specs.Prelude.{◌≡◌, ◌<◌, ◌≤◌, ◌+◌, ◌^◌, ℕ, List, [], map, length, false, OnOk, OnErr, IfOk};
+ghost use Rattle.std.specs.Prelude.{◌≡◌, ◌<◌, ◌≤◌, ◌+◌, ◌^◌, ℕ, List, [], map, length, reverse, false, OnOk, OnErr, IfOk, IfNone, IfSome};
 ghost use Rattle.vfs_names.specs.declared.fingerprint.Fingerprint.{Fingerprint};
-ghost use Rattle.vfs_names.specs.declared.who.Actor.TheVariants.{Session};
+ghost use Rattle.vfs_names.specs.declared.who.Actor.TheVariants.{Main, Session};
+ghost use Rattle.std.specs.List.{AllByRecursion};
+ghost use Rattle.vfs_outside.specs.declared.tree.TreeEntry.{TreeEntry};
 ghost use Rattle.downloaders.specs.Rules.{HasChunk};
+ghost use Rattle.writeback_queue.specs.Legal.{IsNothingDue};
 ghost use Rattle.session_text.specs.declared.reply.Record.{Record};
-ghost use Rattle.one_session.specs.Causes.{AreGiven, HasRemoteCause};
+ghost use Rattle.one_session.specs.Causes.{AreGiven, AreSaved, HasRemoteCause};
 ghost use Rattle.one_session.specs.Logs.{history_of};
 ghost use Rattle.one_session.specs.Queued.{IsQueued, owed_in, queue_of};
-ghost use Rattle.one_session.specs.Served.{Fits, IsServable, Knows, Serves};
+ghost use Rattle.one_session.specs.Served.{Fits, IsServable, Knows, Served, Serves};
+ghost use Rattle.one_session.specs.Sending.{SendsNext};
 ghost use Rattle.one_session.specs.Slots.{ImagesStand, Lends};
 ghost use Rattle.one_session.specs.Steps.{QueuesStep, TakesStep};
-ghost use Rattle.one_session.specs.Views.{given_all};
+ghost use Rattle.one_session.specs.Views.{given_all, histories};
 ghost use Rattle.one_session.specs.Whole.{IsUpTo, IsWhole};
 
 use crate::files::Logs;
@@ -17,6 +21,7 @@ use crate::outcome::Outcome;
 use crate::store::Store;
 use crate::{EpochLog, Step};
 use downloaders::Plan;
+use item_upload::Ended;
 use session_script::CallLine;
 use session_text::Record;
 use std::alloc::Global;
@@ -56,6 +61,7 @@ impl<O: Object, F: CacheFile> OneSession<O, F> {
             → IfOk result (λ s. Fits 1 (Knows F.tells O.tells handed) [] s) }
         ensures limit { IfOk result (λ s. s.limit ≡ limit) }
         ensures none { IfOk result (λ s. s.files ≡ []) }
+        ensures tree { IfOk result (λ s. s.tree ≡ []) }
         ensures untouched { IfOk result (λ s. s.items ≡ []) }
         ensures steps { IfOk result (λ s. s.steps ≡ []) }
         ensures terms { IfOk result (λ s. s.terms ≡ terms) }
@@ -107,8 +113,11 @@ impl<O: Object, F: CacheFile> OneSession<O, F> {
         requires pass { by.pass ≡ 0 }
         requires now { by.now ≤ 2 ^ 62 }
         requires later { IsUpTo by self.old.files }
+        requires tree_later { AllByRecursion (λ (e : TreeEntry). e.by.who.phase ≤ by.who.phase)
+            self.old.tree }
         requires lends { Lends D.tells (length self.old.files) (D.disk disk.old) }
         requires given { AreGiven O.tells (R.outside remote.old).handed (given_all self.old.items) }
+        requires saved { AreSaved F.tells O.tells (R.outside remote.old).handed self.old.files }
         ensures served { (done : Record)
             × Serves 1 F.tells O.tells (R.outside remote.old).handed (R.outside remote.new).handed
             by line.now done self.old self.new
@@ -120,6 +129,7 @@ impl<O: Object, F: CacheFile> OneSession<O, F> {
         ensures lends { Lends D.tells (length self.new.files) (D.disk disk.new) }
         ensures faults { (D.disk disk.old).faults ≤ (D.disk disk.new).faults }
         ensures given { AreGiven O.tells (R.outside remote.new).handed (given_all self.new.items) }
+        ensures saved { AreSaved F.tells O.tells (R.outside remote.new).handed self.new.files }
         ensures later { IsUpTo by self.new.files }
         ensures room { self.old.room ≤ self.new.room + 1 }
     {
@@ -136,6 +146,44 @@ impl<O: Object, F: CacheFile> OneSession<O, F> {
         };
         self.records.push(done).unwrap();
         self.steps.push(Step { before, after }).unwrap();
+    }
+
+    /// Uploads the file whose turn is first, where one is due at the maker's moment: its whole content, as the object at
+    /// its path. One that fails waits again, for longer. Where memory for the queue is wanting none is uploaded. Takes a
+    /// call on the store for each 131,072 bytes of the content, and a look-up of each file that waits.
+    pub fn upload_next<R: Remote<Object = O>>(
+        &mut self,
+        alloc: Global,
+        remote: &mut R,
+        plan: &Plan,
+        by: By,
+    ) -> Result<Option<Ended>, NoMemory>
+        requires actor { by.who.actor ≡ Main }
+        requires pass { by.pass ≡ 0 }
+        requires now { by.now ≤ 2 ^ 62 }
+        requires later { IsUpTo by self.old.files }
+        requires transfers { 0 < self.old.terms.transfers }
+        requires chunk { HasChunk plan.now.chunk }
+        requires given { AreGiven O.tells (R.outside remote.old).handed (given_all self.old.items) }
+        requires saved { AreSaved F.tells O.tells (R.outside remote.old).handed self.old.files }
+        ensures sent { IfOk result (λ ended. IfSome ended (SendsNext F.tells O.tells O.tells by
+            self.old self.new (R.outside remote.old) (R.outside remote.new))) }
+        ensures none { IfOk result (λ ended. IfNone ended (IsNothingDue
+            self.old.terms.write_back (reverse self.old.queue) by.now)) }
+        ensures still { IfOk result (λ ended. IfNone ended (self.new ≡ self.old)) }
+        ensures uncalled { IfOk result (λ ended. IfNone ended
+            (R.outside remote.new ≡ R.outside remote.old)) }
+        ensures err { OnErr result (self.new ≡ self.old) }
+        ensures err_uncalled { OnErr result (R.outside remote.new ≡ R.outside remote.old) }
+        ensures fits { (served : List Served)
+            → Fits 1 (Knows F.tells O.tells (R.outside remote.old).handed) served self.old
+            → Fits 1 (Knows F.tells O.tells (R.outside remote.new).handed) served self.new }
+        ensures given { AreGiven O.tells (R.outside remote.new).handed (given_all self.new.items) }
+        ensures saved { AreSaved F.tells O.tells (R.outside remote.new).handed self.new.files }
+        ensures later { IsUpTo by self.new.files }
+        ensures count { length self.new.files ≡ length self.old.files }
+    {
+        self.store.upload_next(alloc, remote, plan, by)
     }
 
     /// The records of the calls so far, in their order.
@@ -160,6 +208,7 @@ impl<O: Object, F: CacheFile> OneSession<O, F> {
         requires lends { Lends D.tells (length self.files) (D.disk disk.old) }
         ensures tree { result.tree.items ≡ self.tree }
         ensures files { map history_of result.files.items ≡ self.files }
+        ensures told { self.files ≡ histories self.items }
         ensures queue { result.queue.items ≡ self.queue }
         ensures queued { IsQueued self.terms (owed_in self.files) self.queue }
         ensures records { result.records.items ≡ self.records }
@@ -168,7 +217,7 @@ impl<O: Object, F: CacheFile> OneSession<O, F> {
         ensures back { (slot : ℕ) → (D.disk disk.new).out slot ≡ false }
         ensures faults { (D.disk disk.old).faults ≤ (D.disk disk.new).faults }
         ensures images { D.tells → (handed : List (Fingerprint × List ℕ))
-            → AreGiven O.tells handed (given_all self.items)
+            → AreGiven O.tells handed (given_all self.items) → AreSaved F.tells O.tells handed self.files
             → ImagesStand O.tells handed (D.disk disk.new) self.files }
     {
         let OneSession {

@@ -4,7 +4,7 @@ ghost use Rattle.vfs_names.specs.declared.who.Actor.TheVariants.{Session};
 ghost use Rattle.downloaders.specs.Rules.{HasChunk};
 ghost use Rattle.downloaders.specs.declared.Plan.{Plan as Rules};
 ghost use Rattle.session_script.specs.declared.call.Call.TheVariants as call;
-ghost use Rattle.one_session.specs.Causes.{AreGiven};
+ghost use Rattle.one_session.specs.Causes.{AreGiven, AreSaved};
 ghost use Rattle.one_session.specs.Served.{IsServable, Knows};
 ghost use Rattle.one_session.specs.Slots.{Lends};
 ghost use Rattle.one_session.specs.Standing.{Answered, IsCaused, IsSoundStore, Queued, Stepped};
@@ -85,6 +85,7 @@ impl<O: Object, F: CacheFile> Store<O, F> {
         ensures later { IsUpTo by (histories self.new.files.items) }
         ensures did { (handed : List (Fingerprint × List ℕ))
             → AreGiven O.tells handed (given_all self.old.files.items)
+            → AreSaved F.tells O.tells handed (histories self.old.files.items)
             → Answered (Knows F.tells O.tells handed) by (call.Read handle pos len) result self.old self.new }
         ensures given { given_all self.new.files.items ≡ given_all self.old.files.items }
         ensures stepped { Stepped plan.now 0 0 (call.Read handle pos len) result self.old self.new }
@@ -241,6 +242,7 @@ impl<O: Object, F: CacheFile> Store<O, F> {
         ensures faults { (D.disk disk.old).faults ≤ (D.disk disk.new).faults }
         ensures later { IsUpTo by (histories self.new.files.items) }
         ensures did { AreGiven O.tells (R.outside remote.old).handed (given_all self.old.files.items)
+            → AreSaved F.tells O.tells (R.outside remote.old).handed (histories self.old.files.items)
             → Answered (Knows F.tells O.tells (R.outside remote.new).handed) by call.now result self.old self.new }
         ensures given { AreGiven O.tells (R.outside remote.old).handed (given_all self.old.files.items)
             → AreGiven O.tells (R.outside remote.new).handed (given_all self.new.files.items) }

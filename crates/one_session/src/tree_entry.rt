@@ -1,6 +1,6 @@
 ghost use Rattle.std.specs.Prelude.{◌≡◌, ◌<◌, ◌≤◌, ◌+◌, ◌++◌, ◌^◌, ℕ, List, [], ◌∷◌, false, vec_len, vec_capacity};
 ghost use Rattle.shown_rows.specs.Shown.{shown_in};
-ghost use Rattle.one_session.specs.Tree.{lists_root, shown_after};
+ghost use Rattle.one_session.specs.Tree.{is_stored, lists_root, shown_after};
 ghost use Rattle.one_session.specs.TreeFacts.{handles_after};
 
 use shown_rows::ShownRows;
@@ -18,9 +18,10 @@ pub(crate) fn handles_after(kind: &TreeKind, handles: u32) -> u32
     }
 }
 
-/// What the root shows after an entry that doesn't list it; takes no memory.
+/// What the root shows after an entry that neither lists it nor stores an object; takes no memory.
 pub(crate) fn reprint(rows: &mut ShownRows, kind: &TreeKind)
-    requires { lists_root kind.now ≡ false }
+    requires unlisted { lists_root kind.now ≡ false }
+    requires unstored { is_stored kind.now ≡ false }
     ensures { (path : List ℕ) → shown_in rows.new path
         ≡ shown_after kind.now path (shown_in rows.old path) }
 {

@@ -150,6 +150,8 @@ impl<R: Files<File = File> + Clone + Drop> Remote for FolderRemote<R> {
 
     ghost told_objects = { λ t. absurd t };
 
+    ghost told_by_objects = { λ t. absurd t };
+
     ghost told_stages = { λ t. absurd t };
 
     /// The folder is made where it isn't there, with those above it, and must be a directory that can be read. Where it

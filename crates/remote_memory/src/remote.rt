@@ -319,6 +319,8 @@ impl Remote for MemoryRemote {
 
     ghost told_objects = { λ t. t };
 
+    ghost told_by_objects = { λ t. t };
+
     ghost told_stages = { λ t s. refl };
 
     fn attach(&mut self, _name: &str) -> Result<(), RemoteError> {

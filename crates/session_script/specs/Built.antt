@@ -36,11 +36,11 @@ is_built_call (call.Unlink path) = false
 is_built_call (call.Rename from to) = false
 
 -- the program can do what a line asks for: so far the first session's calls on files of one name each, the
--- end of a phase, and moving the clock
+-- end of a phase, moving the clock, and the uploads that are due
 abbrev pub is_built : What → Bool
 is_built (what.Call c) = c.session == 1 && is_built_call c.call
 is_built (what.Advance ms) = true
-is_built what.Tick = false
+is_built what.Tick = true
 is_built what.Clean = false
 is_built what.Poll = false
 is_built what.Join = true

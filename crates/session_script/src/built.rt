@@ -32,7 +32,7 @@ pub(crate) fn is_built(asked: &What) -> bool
 {
     match asked {
         What::Call(line) => line.session == 1 && is_built_call(&line.call),
-        What::Join | What::Advance(_) => true,
+        What::Join | What::Advance(_) | What::Tick => true,
         _ => false,
     }
 }

@@ -95,6 +95,9 @@ pub trait Remote: Drop {
     // an object of a store that tells is one that tells
     ghost told_objects: { tells → Self.Object.tells };
 
+    // and one whose objects tell is one that tells
+    ghost told_by_objects: { Self.Object.tells → tells };
+
     // a stage of a store that tells has as many bytes as it tells
     ghost told_stages: { tells → (s : Self.Stage) → stage_len s ≡ length (staged s) };
 }

@@ -10,14 +10,15 @@ use Rattle.run_words.specs.Words.{Asked}
 use Rattle.session_script.specs.declared.call.Line.{Line}
 use Rattle.one_session.specs.Causes.{HasRemoteCause}
 use Rattle.one_session.specs.Served.{Served}
-use Rattle.vfs_top.proofs.Going.{later_cause, steps_later}
+use Rattle.vfs_top.proofs.Going.{later_cause, steps_later, within_before}
 use Rattle.vfs_top.proofs.Still.{empty_before, still_twice}
 use Rattle.vfs_top.proofs.Texts.{none_written}
 use Rattle.vfs_top.specs.Around.{Around, IsStill, around}
 use Rattle.vfs_top.specs.Ended.{Breaks, BreaksStarted, DoesAll, DoesNothing, DoesSome, IsStop, StarvesStarted, Told, told}
 use Rattle.vfs_top.specs.Epoch.{Epoch}
-use Rattle.vfs_top.specs.Event.{Event, calls_of}
-use Rattle.vfs_top.specs.Phases.{DoesFront, IsEpoch}
+use Rattle.one_session.specs.Steps.{SendsFile}
+use Rattle.vfs_top.specs.Event.{Event, calls_of, deeds_of}
+use Rattle.vfs_top.specs.Phases.{DoesFront, IsEpoch, history_limit}
 use Rattle.vfs_top.specs.Script.{IsReady}
 use Rattle.vfs_top.specs.Stop.{stop_text}
 use Rattle.vfs_top.specs.declared.stop.Stop.{Stop}
@@ -79,7 +80,11 @@ module _ (kept tells : Type 0) (run : Asked) (old mid new : Around) (moment : mi
     recorded = p.recorded;
     causes = causes_before (calls_of events) e.tree p.causes;
     left = p.left;
-    steps = steps_later run.plan mid.disk.faults new.disk.faults old.disk.faults new.disk.faults p.left (calls_of events) (reverse e.steps) d (omega arith) p.steps;
+    made = p.made;
+    steps = steps_later (SendsFile kept tells history_limit e.tree) (SendsFile kept tells history_limit e.tree) (λ by u before after s. s) run.plan mid.disk.faults new.disk.faults old.disk.faults new.disk.faults p.left (deeds_of events) (reverse e.steps) d (omega arith) p.steps;
+    sent = within_before old.remote mid.remote new.remote (deeds_of events) (record { faults = f; changes = g; more = more; handed = h }) p.sent;
+    stored = p.stored;
+    ticked = p.ticked;
     matching = p.matching;
     whole = p.whole;
     phases = p.phases;
@@ -90,7 +95,7 @@ module _ (kept tells : Type 0) (run : Asked) (old mid new : Around) (moment : mi
   }
 
   pub all_before : (written written' : Option (List ℕ)) (script : List Line) (epochs : List Epoch) → DoesAll kept tells run written written' mid new script epochs → DoesAll kept tells run written written' old new script epochs
-  all_before written written' script epochs p = record { epoch = p.epoch; only = p.only; events = p.events; did = epoch_before script p.events p.epoch p.did; text = p.text }
+  all_before written written' script epochs p = record { epoch = p.epoch; only = p.only; events = p.events; did = epoch_before script p.events p.epoch p.did; ended = p.ended; text = p.text }
 
   front_before : (script : List Line) (events : List Event) (e : Epoch) → DoesFront kept tells run mid new script events e → DoesFront kept tells run old new script events e
   front_before script events e p = record { lines = p.lines; others = p.others; front = p.front; did = epoch_before p.lines events e p.did }

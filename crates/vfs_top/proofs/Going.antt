@@ -1,9 +1,12 @@
 -- How an epoch goes on by a call.
-use Rattle.std.proofs.Common.{◌≡◌, ◌∙◌, ◌⊎◌, inl, inr, ℕ, zero, suc, ◌≤◌, ◌++◌, Option, None, Some, List, [], ◌∷◌, length, map, reverse, take, ap, append_assoc, arith, length-append, refl, subst, sym}
+use Rattle.std.proofs.Common.{◌≡◌, ◌∙◌, ◌⊎◌, inl, inr, ℕ, zero, suc, ◌≤◌, ◌++◌, ◌<◌, Option, None, Some, List, [], ◌∷◌, cond, drop, filter, length, map, reverse, take, ap, append_assoc, append-nil, arith, length-append, refl, subst, sym}
 use Rattle.std.proofs.lemmas.Grind.{common_steps}
 use Rattle.std.proofs.lemmas.List.{reverse-append}
+use Rattle.std.proofs.lemmas.List.Elements.{filter-append}
+use Rattle.std.proofs.Math.Seq.{take-append_seam}
 use Rattle.std.specs.List.{AllByRecursion}
 use Rattle.std.specs.Prelude.{IsSomeAnd}
+use Rattle.vfs_names.specs.declared.who.Actor.TheVariants.{Session}
 use Rattle.vfs_names.specs.declared.who.By.{By}
 use Rattle.vfs_names.specs.declared.fingerprint.Fingerprint.{Fingerprint}
 use Rattle.vfs_outside.proofs.Told.{later_rose, rose_later}
@@ -19,17 +22,23 @@ use Rattle.session_text.specs.declared.reply.Record.{Record}
 use Rattle.session_text.specs.declared.reply.Reply.{Reply}
 use Rattle.downloaders.specs.declared.Plan.{Plan}
 use Rattle.run_words.specs.Words.{Asked}
+use Rattle.item_upload.specs.declared.whole.Ended.{Ended}
+use Rattle.sparse_item.specs.Answers.{IsFull}
 use Rattle.sparse_item.specs.Item.{Item}
 use Rattle.writeback_queue.specs.declared.entry.QueueTerms.{QueueTerms}
 use Rattle.one_session.specs.Causes.{CauseOf, HandsBig, HasRemoteCause, IsUnshown, ends_gone}
 use Rattle.one_session.specs.Queued.{queue_step}
-use Rattle.one_session.specs.Served.{Served}
+use Rattle.one_session.specs.Sending.{Sends}
+use Rattle.one_session.specs.Served.{Served, tree_phase}
 use Rattle.one_session.specs.State.{State, Step, item_in}
-use Rattle.one_session.specs.Steps.{AreSteps, IsOpenCause, TakesStep, Touches, queue_after}
-use Rattle.one_session.specs.Tree.{shown}
+use Rattle.one_session.specs.Steps.{AreSteps, Deed, Serving, Sending, SendsFile, IsOpenCause, TakesStep, Touches, Upload, WasFullFor, queue_after}
+use Rattle.one_session.specs.Tree.{free_places, shown}
+use Rattle.one_session.proofs.Makers.{all_mono}
 use Rattle.vfs_top.specs.Around.{Around}
-use Rattle.vfs_top.specs.Event.{Event, Called, calls_of, line_of}
+use Rattle.vfs_top.specs.Event.{Event, AreTicked, Called, calls_of, deeds_of, line_of, maker_at, moment_after, phase_after}
 use Rattle.vfs_top.specs.Going.{IsGoing, MakesCall, Now}
+use Rattle.vfs_top.specs.Phases.{AreWithin, IsByPhase, IsLaterRemote, history_limit, is_main, is_mains, stored_by}
+use Rattle.vfs_top.proofs.Phased.{by_phase_append}
 
 take_front : {A : Type 0} (xs ys : List A) (k : ℕ) → k ≤ length xs → take k (xs ++ ys) ≡ take k xs
 take_front [] ys zero le = refl
@@ -110,7 +119,7 @@ later_cause asked done tree a b z more f g e h = record {
   cause = later_cause_of asked done tree a b z f g h.cause;
 }
 
-causes_later : (served : List Served) (tree more : List TreeEntry) (a b z : Outside) (extra : List (Fingerprint × List ℕ)) → AllByRecursion (λ (d : Served). HasRemoteCause d.line.call d.done tree a b) served → b.faults ≤ z.faults → b.changes ≤ z.changes
+pub causes_later : (served : List Served) (tree more : List TreeEntry) (a b z : Outside) (extra : List (Fingerprint × List ℕ)) → AllByRecursion (λ (d : Served). HasRemoteCause d.line.call d.done tree a b) served → b.faults ≤ z.faults → b.changes ≤ z.changes
     → z.handed ≡ extra ++ b.handed → AllByRecursion (λ (d : Served). HasRemoteCause d.line.call d.done (tree ++ more) a z) served
 causes_later [] tree more a b z extra h f g e = tt
 causes_later (d ∷ served) tree more a b z extra h f g e = (cause_later d.line.call d.done tree more a b z extra h.0 f g e, causes_later served tree more a b z extra h.1 f g e)
@@ -140,64 +149,148 @@ touches_later plan x y x' y' (call.RemoveDir path) done step f g t = tt
 touches_later plan x y x' y' (call.Unlink path) done step f g t = tt
 touches_later plan x y x' y' (call.Rename from to) done step f g t = tt
 
-pub steps_later : (plan : Plan) (x y x' y' : ℕ) (left : List Item) (served : List Served) (steps : List Step) → x' ≤ x → y ≤ y' → AreSteps plan x y left served steps → AreSteps plan x' y' left served steps
-steps_later plan x y x' y' left [] [] f g s = s
-steps_later plan x y x' y' left [] (step ∷ earlier) f g s = absurd s
-steps_later plan x y x' y' left (d ∷ older) [] f g s = absurd s
-steps_later plan x y x' y' left (d ∷ older) (step ∷ earlier) f g s =
-    (s.0, s.1, touches_later plan x y x' y' d.line.call d.done step f g s.2, steps_later plan x y x' y' step.before older earlier f g s.3)
+-- the causes of an upload stay, where the histories were full for it
+pub sends_full : (kept store tells : Type 0) (by : By) (full full' : Type 0) (was is : Item) (o o' : Outside) (ended : Ended) → (full → full') → Sends kept store tells by full was is o o' ended → Sends kept store tells by full' was is o o' ended
+sends_full kept store tells by full full' was is o o' ended so x = record {
+  enters = x.enters;
+  dirty = x.dirty;
+  owed = x.owed;
+  uploads = x.uploads;
+  unsaved = x.unsaved;
+  hands = x.hands;
+  uncalled = x.uncalled;
+  causes = x.causes;
+  full_cause = λ e. either (x.full_cause e);
+  whole = x.whole;
+  later = x.later;
+  same = x.same;
+  has_same = x.has_same;
+} where
+  either : IsFull was 2 ⊎ full → IsFull was 2 ⊎ full'
+  either (inl h) = inl h
+  either (inr h) = inr (so h)
+
+full_more : (limit : ℕ) (by : By) (tree more : List TreeEntry) → WasFullFor limit by tree → WasFullFor limit by (tree ++ more)
+full_more limit by tree more w = let same = take_front tree more w.n w.inside in record {
+  n = w.n;
+  inside = omega (arith, w.inside, length-append tree more);
+  no_later = subst (AllByRecursion (λ (e : TreeEntry). e.by.who.phase ≤ by.who.phase)) (sym same) w.no_later;
+  full = subst (λ l. free_places limit l < 1) (sym same) w.full;
+}
+
+pub full_now : (limit : ℕ) (by : By) (tree more : List TreeEntry) → AllByRecursion (λ (e : TreeEntry). e.by.who.phase ≤ by.who.phase) tree → free_places limit tree < 1 → WasFullFor limit by (tree ++ more)
+full_now limit by tree more later full = let same = take-append_seam tree more in record {
+  n = length tree;
+  inside = omega (arith, length-append tree more);
+  no_later = subst (AllByRecursion (λ (e : TreeEntry). e.by.who.phase ≤ by.who.phase)) (sym same) later;
+  full = subst (λ l. free_places limit l < 1) (sym same) full;
+}
+
+-- what an upload did is told of a longer history of the tree too
+pub sends_more : (kept tells : Type 0) (limit : ℕ) (tree more : List TreeEntry) (by : By) (u : Upload) (before after : List Item) → SendsFile kept tells limit tree by u before after → SendsFile kept tells limit (tree ++ more) by u before after
+sends_more kept tells limit tree more by u before after p = record {
+  inside = p.inside;
+  one = p.one;
+  path = p.path;
+  sends = sends_full kept tells tells by (WasFullFor limit by tree) (WasFullFor limit by (tree ++ more)) (item_in before u.item) (item_in after u.item) u.old u.new u.ended (full_more limit by tree more) p.sends;
+}
+
+pub steps_later : (sends sends' : By → Upload → List Item → List Item → Type 0) → ((by : By) (u : Upload) (before after : List Item) → sends by u before after → sends' by u before after)
+    → (plan : Plan) (x y x' y' : ℕ) (left : List Item) (deeds : List Deed) (steps : List Step) → x' ≤ x → y ≤ y' → AreSteps sends plan x y left deeds steps → AreSteps sends' plan x' y' left deeds steps
+steps_later sends sends' so plan x y x' y' left [] [] f g s = s
+steps_later sends sends' so plan x y x' y' left [] (step ∷ earlier) f g s = absurd s
+steps_later sends sends' so plan x y x' y' left (Serving d ∷ older) [] f g s = absurd s
+steps_later sends sends' so plan x y x' y' left (Serving d ∷ older) (step ∷ earlier) f g s =
+    (s.0, s.1, touches_later plan x y x' y' d.line.call d.done step f g s.2, steps_later sends sends' so plan x y x' y' step.before older earlier f g s.3)
+steps_later sends sends' so plan x y x' y' left (Sending by u ∷ older) steps f g s = (s.0, so by u s.0 left s.1, steps_later sends sends' so plan x y x' y' s.0 older steps f g s.2)
 
 -- one call more was a step
-steps_more : (plan : Plan) (first x y : ℕ) (d : Served) (served : List Served) (s t : State) → first ≤ x → x ≤ y → TakesStep plan x y d.line.call d.done s t
-    → AreSteps plan first x s.items served (reverse s.steps) → AreSteps plan first y t.items (d ∷ served) (reverse t.steps)
-steps_more plan first x y d served s t f g k steps =
-    subst (λ l. AreSteps plan first y t.items (d ∷ served) l) (sym (ap reverse k.added ∙ reverse-append s.steps (step ∷ [])))
-    (refl, k.placed, touches_later plan x y first y d.line.call d.done step f (omega arith) k.does, steps_later plan first x first y s.items served (reverse s.steps) (omega arith) g steps)
+steps_more : (sends sends' : By → Upload → List Item → List Item → Type 0) → ((by : By) (u : Upload) (before after : List Item) → sends by u before after → sends' by u before after)
+    → (plan : Plan) (first x y : ℕ) (d : Served) (deeds : List Deed) (s t : State) → first ≤ x → x ≤ y → TakesStep plan x y d.line.call d.done s t
+    → AreSteps sends plan first x s.items deeds (reverse s.steps) → AreSteps sends' plan first y t.items (Serving d ∷ deeds) (reverse t.steps)
+steps_more sends sends' so plan first x y d deeds s t f g k steps =
+    subst (λ l. AreSteps sends' plan first y t.items (Serving d ∷ deeds) l) (sym (ap reverse k.added ∙ reverse-append s.steps (step ∷ [])))
+    (refl, k.placed, touches_later plan x y first y d.line.call d.done step f (omega arith) k.does, steps_later sends sends' so plan first x first y s.items deeds (reverse s.steps) (omega arith) g steps)
   where
     step : Step
     step = record { before = s.items; after = t.items }
 
 -- and it entered in the queue what it was to enter
-entered_more : (d : Served) (served : List Served) (write_back : ℕ) (s t : State) → t.queue ≡ s.queue ++ queue_step s.terms.write_back d.by d.line.call d.done (record { before = s.items; after = t.items }) → s.terms.write_back ≡ write_back
-    → t.steps ≡ s.steps ++ record { before = s.items; after = t.items } ∷ [] → s.queue ≡ queue_after write_back served (reverse s.steps) → t.queue ≡ queue_after write_back (d ∷ served) (reverse t.steps)
-entered_more d served write_back s t grew same added entered =
-    grew ∙ ap (λ q. q ++ queue_step s.terms.write_back d.by d.line.call d.done step) entered ∙ ap (λ n. queue_after write_back served (reverse s.steps) ++ queue_step n d.by d.line.call d.done step) same
-    ∙ ap (queue_after write_back (d ∷ served)) (sym (ap reverse added ∙ reverse-append s.steps (step ∷ [])))
+entered_more : (d : Served) (deeds : List Deed) (write_back : ℕ) (s t : State) → t.queue ≡ s.queue ++ queue_step s.terms.write_back d.by d.line.call d.done (record { before = s.items; after = t.items }) → s.terms.write_back ≡ write_back
+    → t.steps ≡ s.steps ++ record { before = s.items; after = t.items } ∷ [] → s.queue ≡ queue_after write_back deeds (reverse s.steps) → t.queue ≡ queue_after write_back (Serving d ∷ deeds) (reverse t.steps)
+entered_more d deeds write_back s t grew same added entered =
+    grew ∙ ap (λ q. q ++ queue_step s.terms.write_back d.by d.line.call d.done step) entered ∙ ap (λ n. queue_after write_back deeds (reverse s.steps) ++ queue_step n d.by d.line.call d.done step) same
+    ∙ ap (queue_after write_back (Serving d ∷ deeds)) (sym (ap reverse added ∙ reverse-append s.steps (step ∷ [])))
   where
     step : Step
     step = record { before = s.items; after = t.items }
 
+-- the store is later, step by step
+pub remote_twice : (a b c : Outside) → IsLaterRemote a b → IsLaterRemote b c → IsLaterRemote a c
+remote_twice a b c p q = record {
+  faults = omega (arith, p.faults, q.faults);
+  changes = omega (arith, p.changes, q.changes);
+  more = q.more ++ p.more;
+  handed = handed_twice q.more p.more a.handed b.handed c.handed p.handed q.handed;
+}
+
+pub remote_same : (a : Outside) → IsLaterRemote a a
+remote_same a = record { faults = omega arith; changes = omega arith; more = []; handed = refl }
+
+pub within_later : (a b c : Outside) (deeds : List Deed) → IsLaterRemote b c → AreWithin a b deeds → AreWithin a c deeds
+within_later a b c [] p w = tt
+within_later a b c (Serving d ∷ older) p w = within_later a b c older p w
+within_later a b c (Sending by u ∷ older) p w = (record { before = w.0.before; after = remote_twice u.new b c w.0.after p }, within_later a b c older p w.1)
+
+pub within_before : (a b c : Outside) (deeds : List Deed) → IsLaterRemote a b → AreWithin b c deeds → AreWithin a c deeds
+within_before a b c [] p w = tt
+within_before a b c (Serving d ∷ older) p w = within_before a b c older p w
+within_before a b c (Sending by u ∷ older) p w = (record { before = remote_twice a b u.old p w.0.before; after = w.0.after }, within_before a b c older p w.1)
+
+-- none of the session's entries is the program's
+none_mains : (by : By) (more : List TreeEntry) → by.who.actor ≡ Session 1 → AllByRecursion (λ (e : TreeEntry). e.by ≡ by) more → filter is_mains more ≡ []
+none_mains by [] own made = refl
+none_mains by (e ∷ more) own made = ap (λ b. cond b (e ∷ filter is_mains more) (filter is_mains more)) (ap (λ (b : By). is_main b.who.actor) made.0 ∙ ap is_main own) ∙ none_mains by more own made.1
+
+stored_still : (by : By) (old more new : List TreeEntry) (stored : List TreeEntry) → by.who.actor ≡ Session 1 → AllByRecursion (λ (e : TreeEntry). e.by ≡ by) more → new ≡ old ++ more → filter is_mains old ≡ stored → filter is_mains new ≡ stored
+stored_still by old more new stored own made is was = ap (filter is_mains) is ∙ filter-append is_mains old more ∙ ap (λ l. filter is_mains old ++ l) (none_mains by more own made) ∙ append-nil (filter is_mains old) ∙ was
+
 -- a call more was made
-pub call_made : (kept tells : Type 0) (run : Asked) (start : Around) (a b : Now) (lines left : List Line) (n : ℕ) (c : CallLine) (by : By) (events : List Event)
-    → IsGoing kept tells run start lines (record { line = n; what = what.Call c } ∷ left) by events a → (x : MakesCall kept tells run by c a b)
-    → IsGoing kept tells run start lines left by (Called (record { by = by; line = c; done = x.done }) ∷ events) b
-call_made kept tells run start a b lines left n c by events p x =
+pub call_made : (kept tells : Type 0) (run : Asked) (start : Around) (first : ℕ) (a b : Now) (lines left : List Line) (n : ℕ) (c : CallLine) (by : By) (events : List Event)
+    → by ≡ maker_at (phase_after events) (moment_after first events) → AllByRecursion (λ (e : TreeEntry). e.by.who.phase ≤ by.who.phase) a.session.tree
+    → IsGoing kept tells run start first lines (record { line = n; what = what.Call c } ∷ left) events (deeds_of events) a → (x : MakesCall kept tells run by c a b)
+    → IsGoing kept tells run start first lines left (Called (record { by = by; line = c; done = x.done }) ∷ events) (deeds_of (Called (record { by = by; line = c; done = x.done }) ∷ events)) b
+call_made kept tells run start first a b lines left n c by events maker past p x =
     let d : Served = record { by = by; line = c; done = x.done } in
     let e : line_of (Called d) ≡ record { line = n; what = what.Call c } = ap (λ n. record { line = n; what = what.Call c }) (sym p.can.0.0) in
+    let grew = x.serves.grew in
+    let more = x.serves.more in
+    let rising : IsLaterRemote a.around.remote b.around.remote = record { faults = x.cause.faults; changes = x.cause.changes; more = x.cause.more; handed = x.cause.handed } in
     record {
       asked = lines_more (Called d) events (record { line = n; what = what.Call c }) left lines e p.asked;
-      first = p.first;
       no_sooner = p.no_sooner;
-      timely = (p.maker, p.timely);
-      is_now = p.is_now ∙ sym x.moment;
-      maker = p.maker;
-      later = x.later;
+      timely = (maker, p.timely);
       fits = x.serves.fits (calls_of events) p.fits;
       given = x.given;
+      saved = x.saved;
       limit = x.serves.limit ∙ p.limit;
       terms = x.queue.0 ∙ p.terms;
-      entered = entered_more d (calls_of events) run.write_back a.session b.session x.queue.1 (ap (λ (t : QueueTerms). t.write_back) p.terms) x.step.added p.entered;
+      entered = entered_more d (deeds_of events) run.write_back a.session b.session x.queue.1 (ap (λ (t : QueueTerms). t.write_back) p.terms) x.step.added p.entered;
       causes = (
-        later_cause c.call x.done b.session.tree start.remote a.around.remote b.around.remote p.more p.remote_faults p.changes p.handed x.cause,
-        subst (λ tree. AllByRecursion (λ (d : Served). HasRemoteCause d.line.call d.done tree start.remote b.around.remote) (calls_of events)) (sym x.serves.grew)
-            (causes_later (calls_of events) a.session.tree x.serves.more start.remote a.around.remote b.around.remote x.cause.more p.causes x.cause.faults x.cause.changes x.cause.handed),
+        later_cause c.call x.done b.session.tree start.remote a.around.remote b.around.remote p.remote.more p.remote.faults p.remote.changes p.remote.handed x.cause,
+        subst (λ tree. AllByRecursion (λ (d : Served). HasRemoteCause d.line.call d.done tree start.remote b.around.remote) (calls_of events)) (sym grew)
+            (causes_later (calls_of events) a.session.tree more start.remote a.around.remote b.around.remote x.cause.more p.causes x.cause.faults x.cause.changes x.cause.handed),
       );
-      steps = steps_more run.plan start.disk.faults a.around.disk.faults b.around.disk.faults d (calls_of events) a.session b.session p.disk_faults x.disk x.step p.steps;
+      steps = steps_more (SendsFile kept tells history_limit a.session.tree) (SendsFile kept tells history_limit b.session.tree)
+          (λ by u before after s. subst (λ tree. SendsFile kept tells history_limit tree by u before after) (sym grew) (sends_more kept tells history_limit a.session.tree more by u before after s))
+          run.plan start.disk.faults a.around.disk.faults b.around.disk.faults d (deeds_of events) a.session b.session p.disk_faults x.disk x.step p.steps;
+      sent = within_later start.remote a.around.remote b.around.remote (deeds_of events) rising p.sent;
+      stored = stored_still by a.session.tree more b.session.tree (stored_by (deeds_of events)) (ap (λ (b : By). b.who.actor) maker) x.serves.made grew p.stored;
+      ticked = subst (λ l. AreTicked run.write_back events (drop 1 l)) (sym (ap reverse x.step.added ∙ reverse-append a.session.steps (record { before = a.session.items; after = b.session.items } ∷ []))) p.ticked;
+      ordered = subst (IsByPhase tree_phase) (sym grew) (by_phase_append tree_phase by.who.phase a.session.tree more p.ordered past
+          (all_mono (λ (e : TreeEntry). e.by ≡ by) (λ (e : TreeEntry). tree_phase e ≡ by.who.phase) (λ e q. ap (λ (b : By). b.who.phase) q) more x.serves.made));
       disk_faults = omega (arith, p.disk_faults, x.disk);
-      remote_faults = omega (arith, p.remote_faults, x.cause.faults);
-      changes = omega (arith, p.changes, x.cause.changes);
-      more = x.cause.more ++ p.more;
-      handed = handed_twice x.cause.more p.more start.remote.handed a.around.remote.handed b.around.remote.handed p.handed x.cause.handed;
+      remote = remote_twice start.remote a.around.remote b.around.remote p.remote rising;
       can = p.can.1;
       room = omega (arith, p.room, x.room);
       few = omega (arith, p.few);

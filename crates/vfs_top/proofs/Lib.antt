@@ -1,6 +1,7 @@
 mod Begun
 pub mod Breaking
 pub mod Built
+mod Dues
 mod Ending
 mod Going
 mod Joining
@@ -8,4 +9,5 @@ mod Phased
 mod Pieces
 pub mod Still
 pub mod Texts
+mod Ticking
 mod Told

@@ -8,7 +8,7 @@ use Rattle.session_text.specs.declared.reply.Record.{Record}
 use Rattle.session_text.specs.declared.shown.Shown.{Shown}
 use Rattle.session_text.specs.declared.shown.Shown.TheVariants.{Replied}
 use Rattle.one_session.specs.Served.{Served}
-use Rattle.vfs_top.specs.Event.{Event, Called, Paused, before_last, calls_of, earlier, pause_shown, record_of, shown_of}
+use Rattle.vfs_top.specs.Event.{Event, Called, Paused, Ticked, before_last, calls_of, earlier, pause_shown, record_of, shown_of}
 use Rattle.vfs_top.specs.Transcript.{shown_texts, texts_of}
 
 pub texts_append : (xs ys : List Shown) → shown_texts (xs ++ ys) ≡ shown_texts xs ++ shown_texts ys
@@ -38,6 +38,7 @@ earlier_fewer : (events : List Event) → length (calls_of (earlier events)) ≤
 earlier_fewer [] = omega arith
 earlier_fewer (Called d ∷ older) = omega (arith, earlier_fewer older)
 earlier_fewer (Paused n pause moment ∷ older) = omega arith
+earlier_fewer (Ticked n moment uploads whole ∷ older) = omega arith
 
 -- the replies of the phase that is under way
 abbrev pub pending : List Event → List ℕ
@@ -61,6 +62,8 @@ pub told_and_pending : (events : List Event) → texts_of events ≡ texts_of (e
 told_and_pending [] = refl
 told_and_pending (Paused n pause moment ∷ older) =
     sym (ap (λ l. texts_of (Paused n pause moment ∷ older) ++ replies l) (all_dropped (calls_of older)) ∙ append-nil (texts_of (Paused n pause moment ∷ older)))
+told_and_pending (Ticked n moment uploads whole ∷ older) =
+    sym (ap (λ l. texts_of (Ticked n moment uploads whole ∷ older) ++ replies l) (all_dropped (calls_of older)) ∙ append-nil (texts_of (Ticked n moment uploads whole ∷ older)))
 told_and_pending (Called d ∷ older) =
     text_more (Called d) older ∙ ap (λ l. l ++ shown_text (Replied d.done)) (told_and_pending older)
     ∙ append_assoc (texts_of (earlier older)) (pending older) (shown_text (Replied d.done)) ∙ ap (λ l. texts_of (earlier older) ++ l) (sym (pending_more d older))
@@ -72,6 +75,10 @@ last_told (Called d ∷ older) = ([], sym (append-nil (texts_of (earlier older))
 last_told (Paused n pause moment ∷ older) = let text = shown_text (pause_shown n pause moment) in (
   pending older ++ text,
   text_more (Paused n pause moment) older ∙ ap (λ l. l ++ text) (told_and_pending older) ∙ append_assoc (texts_of (earlier older)) (pending older) text,
+)
+last_told (Ticked n moment uploads whole ∷ older) = let text = shown_text (shown_of (Ticked n moment uploads whole)) in (
+  pending older ++ text,
+  text_more (Ticked n moment uploads whole) older ∙ ap (λ l. l ++ text) (told_and_pending older) ∙ append_assoc (texts_of (earlier older)) (pending older) text,
 )
 
 -- what stands from a place to the end

@@ -9,7 +9,7 @@ use Rattle.session_script.specs.declared.call.Line.{Line}
 use Rattle.session_text.specs.Lines.{end_text, start_text}
 use Rattle.vfs_top.specs.Around.{Around, IsStill}
 use Rattle.vfs_top.specs.Epoch.{Epoch}
-use Rattle.vfs_top.specs.Event.{Event, before_last}
+use Rattle.vfs_top.specs.Event.{Event, AreWhole, before_last}
 use Rattle.vfs_top.specs.Phases.{DoesFront, IsEpoch}
 use Rattle.vfs_top.specs.Script.{IsReady}
 use Rattle.vfs_top.specs.Stop.{Stops, no_memory_text, status_of, stop_text}
@@ -36,12 +36,13 @@ told left source_faults written sink_faults around =
 abbrev pub printed : Asked → List Event → Epoch → List ℕ
 printed run events e = transcript run.write_back ((shown_in events, e) ∷ [])
 
--- All lines were done in one epoch, and the whole transcript was written.
+-- All lines were done in one epoch, each to its end, and the whole transcript was written.
 pub record DoesAll (kept tells : Type 0) (run : Asked) (written written' : Option (List ℕ)) (old new : Around) (script : List Line) (epochs : List Epoch) : Type 0 where
   pub epoch : Epoch
   pub only : epochs ≡ epoch ∷ []
   pub events : List Event
   pub did : IsEpoch kept tells run old new script events epoch
+  pub ended : AreWhole events
   pub text : Appends written written' (printed run events epoch)
 
 -- nothing was done, or the start was written and all that was shown before the last phase in which something was done
@@ -64,6 +65,7 @@ pub record RunsLines (kept tells : Type 0) (run : Asked) (written written' : Opt
   pub events : List Event
   pub did : DoesFront kept tells run old new script events e
   pub all : OnOk result (IsEpoch kept tells run old new script events e)
+  pub ended : OnOk result (AreWhole events)
   pub text : Writes written written' faults faults' (texts_of events ++ (end_block run.write_back e ++ end_text 0)) result
   pub told : AppendsPast written written' (texts_of (before_last events))
 
@@ -72,6 +74,7 @@ pub record RunsEpoch (kept tells : Type 0) (run : Asked) (written written' : Opt
   pub events : List Event
   pub did : DoesFront kept tells run old new script events e
   pub all : OnOk result (IsEpoch kept tells run old new script events e)
+  pub ended : OnOk result (AreWhole events)
   pub text : Writes written written' faults faults' (printed run events e) result
   pub told : WasTold written written' events
 

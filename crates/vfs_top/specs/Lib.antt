@@ -1,4 +1,5 @@
 pub mod Around
+pub mod Due
 pub mod Ended
 pub mod Epoch
 pub mod Event

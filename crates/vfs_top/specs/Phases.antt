@@ -1,22 +1,32 @@
 -- What an epoch of phases left.
-use Rattle.std.specs.Prelude.{◌≡◌, ◌≤◌, ℕ, false, List, [], ◌∷◌, ◌++◌, map, reverse}
+use Rattle.std.specs.Prelude.{◌≡◌, ◌≤◌, ℕ, Bool, false, true, List, [], ◌∷◌, ◌++◌, filter, map, reverse}
 use Rattle.std.specs.List.{AllByRecursion}
+use Rattle.vfs_names.specs.declared.fingerprint.Fingerprint.{Fingerprint}
+use Rattle.vfs_names.specs.declared.who.Actor.{Actor}
+use Rattle.vfs_names.specs.declared.who.Actor.TheVariants.{Main, Session, Worker}
+use Rattle.vfs_names.specs.declared.who.By.{By}
+use Rattle.vfs_outside.specs.Outside.{Outside}
 use Rattle.vfs_outside.specs.declared.tree.TreeEntry.{TreeEntry}
+use Rattle.vfs_outside.specs.declared.tree.TreeKind.TheVariants.{Stored}
 use Rattle.item_core.specs.declared.entry.Entry.{Entry}
 use Rattle.session_script.specs.declared.call.Line.{Line}
 use Rattle.run_words.specs.Words.{Asked}
+use Rattle.item_upload.specs.declared.whole.Ended.{Ended}
+use Rattle.item_upload.specs.declared.whole.Ended.TheVariants.{Saved, Dropped, Unbegun}
 use Rattle.sparse_item.specs.Item.{Item}
 use Rattle.writeback_queue.specs.declared.entry.QueueTerms.{QueueTerms}
+use Rattle.one_session.specs.Calls.{in_tree}
 use Rattle.one_session.specs.Causes.{HasRemoteCause}
 use Rattle.one_session.specs.Queued.{IsQueued, owed_in}
 use Rattle.one_session.specs.Served.{IsServed, Knows, Served}
 use Rattle.one_session.specs.Slots.{ImagesStand}
 use Rattle.one_session.specs.State.{History}
-use Rattle.one_session.specs.Steps.{AreSteps, queue_after}
+use Rattle.one_session.specs.Steps.{AreSteps, Deed, Serving, Sending, SendsFile, Upload, queue_after}
+use Rattle.one_session.specs.Views.{histories}
 use Rattle.one_session.specs.Whole.{IsWhole}
 use Rattle.vfs_top.specs.Around.{Around, IsEmpty}
 use Rattle.vfs_top.specs.Epoch.{Epoch}
-use Rattle.vfs_top.specs.Event.{Event, AreTimely, calls_of, line_of, moment_after, record_of}
+use Rattle.vfs_top.specs.Event.{Event, AreTicked, AreTimely, calls_of, deeds_of, line_of, moment_after, record_of}
 
 -- what the queue keeps to, as it was asked for
 abbrev pub terms_of : Asked → QueueTerms
@@ -36,8 +46,46 @@ pub record AreByPhase (tree : List TreeEntry) (files : List History) : Type 0 wh
   pub in_tree : IsByPhase (λ (e : TreeEntry). e.by.who.phase) tree
   pub in_files : AllByRecursion (λ (file : History). IsByPhase (λ (e : Entry). e.by.who.phase) file.entries) files
 
+-- no count of the store fell, and what was handed out stays so
+pub record IsLaterRemote (old new : Outside) : Type 0 where
+  pub faults : old.faults ≤ new.faults
+  pub changes : old.changes ≤ new.changes
+  pub more : List (Fingerprint × List ℕ)
+  pub handed : new.handed ≡ more ++ old.handed
+
+-- an upload was done between two moments of the store
+pub record IsWithin (old new : Outside) (u : Upload) : Type 0 where
+  pub before : IsLaterRemote old u.old
+  pub after : IsLaterRemote u.new new
+
+abbrev pub AreWithin : Outside → Outside → List Deed → Type 0
+AreWithin old new [] = Unit {0}
+AreWithin old new (Serving d ∷ older) = AreWithin old new older
+AreWithin old new (Sending by u ∷ older) = IsWithin old new u × AreWithin old new older
+
+abbrev pub is_main : Actor → Bool
+is_main Main = true
+is_main (Session n) = false
+is_main (Worker n) = false
+
+-- the entry is of the program itself
+abbrev pub is_mains : TreeEntry → Bool
+is_mains e = is_main e.by.who.actor
+
+-- what an upload that saved its file says in the tree
+abbrev pub stored_of : By → List ℕ → Ended → List TreeEntry
+stored_of by path (Saved print) = in_tree by (Stored path print) ∷ []
+stored_of by path (Dropped why) = []
+stored_of by path (Unbegun why) = []
+
+-- what some deeds, the newest first, said in the tree of the objects that were stored
+abbrev pub stored_by : List Deed → List TreeEntry
+stored_by [] = []
+stored_by (Serving d ∷ older) = stored_by older
+stored_by (Sending by u ∷ older) = stored_by older ++ stored_of by u.path u.ended
+
 -- What an epoch of these lines left over a cache that was empty, in which these events came about, the newest first: they are those of the lines, calls
--- of the first session, and what stands between its phases; the calls of a phase were made at one moment, no phase's moment is less
+-- of the first session, and what stands between its phases, uploads among it; the calls of a phase were made at one moment, no phase's moment is less
 -- than the one before it, the first phase's isn't less than the clock's answer before, and the last phase's is its answer after.
 -- The records and the histories are those of the calls, by the contents that hold what the remote handed out; the histories
 -- go phase by phase. A refusal for the remote has its cause; each call did to the files, and asked of the objects behind them
@@ -55,11 +103,15 @@ pub record IsEpoch (kept tells : Type 0) (run : Asked) (old new : Around) (lines
   pub recorded : e.records ≡ map record_of (reverse (calls_of events))
   pub causes : AllByRecursion (λ (d : Served). HasRemoteCause d.line.call d.done e.tree old.remote new.remote) (calls_of events)
   pub left : List Item
-  pub steps : AreSteps run.plan old.disk.faults new.disk.faults left (calls_of events) (reverse e.steps)
+  pub made : e.files ≡ histories left
+  pub steps : AreSteps (SendsFile kept tells history_limit e.tree) run.plan old.disk.faults new.disk.faults left (deeds_of events) (reverse e.steps)
+  pub sent : AreWithin old.remote new.remote (deeds_of events)
+  pub stored : filter is_mains e.tree ≡ stored_by (deeds_of events)
+  pub ticked : AreTicked run.write_back events (reverse e.steps)
   pub matching : IsServed 1 (Knows kept tells new.remote.handed) history_limit (calls_of events) e.tree e.files
   pub whole : IsWhole 1 e.tree e.files
   pub phases : AreByPhase e.tree e.files
-  pub entered : e.queue ≡ queue_after run.write_back (calls_of events) (reverse e.steps)
+  pub entered : e.queue ≡ queue_after run.write_back (deeds_of events) (reverse e.steps)
   pub queued : IsQueued (terms_of run) (owed_in e.files) e.queue
   pub back : (slot : ℕ) → new.disk.out slot ≡ false
   pub images : kept → ImagesStand tells new.remote.handed new.disk e.files

@@ -50,6 +50,7 @@ pub fn run_epoch<K: Sink, R: Remote, D: CacheDisk, C: Clock, G: Gate>(
     requires none { session.files ≡ [] }
     requires untouched { IsUntouched session }
     requires chunk { HasChunk run.now.plan.chunk }
+    requires transfers { 1 ≤ run.now.transfers }
     requires can { CanDoAll lines.now }
     requires few { length lines.now ≤ 65536 }
     requires room { length lines.now ≤ session.room }
@@ -88,6 +89,7 @@ fn run_lines<K: Sink, R: Remote, D: CacheDisk, C: Clock, G: Gate>(
     requires none { session.files ≡ [] }
     requires untouched { IsUntouched session }
     requires chunk { HasChunk run.now.plan.chunk }
+    requires transfers { 1 ≤ run.now.transfers }
     requires can { CanDoAll lines.now }
     requires few { length lines.now ≤ 65536 }
     requires room { length lines.now ≤ session.room }

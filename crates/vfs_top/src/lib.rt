@@ -3,6 +3,7 @@
 
 mod epoch;
 mod input;
+mod laws;
 mod lines;
 mod phase;
 mod prepare;
@@ -11,8 +12,10 @@ mod runner;
 mod script;
 mod start;
 mod stop;
+mod tick;
 mod write;
 
+pub use laws::each_file_that_is_due_is_uploaded;
 pub use runner::{Ended, run};
 
 #[cfg(test)]

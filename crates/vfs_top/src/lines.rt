@@ -36,6 +36,7 @@ pub fn do_lines<K: Sink, R: Remote, D: CacheDisk, C: Clock, G: Gate>(
     requires none { session.old.files ≡ [] }
     requires untouched { IsUntouched session.old }
     requires chunk { HasChunk run.now.plan.chunk }
+    requires transfers { 1 ≤ run.now.transfers }
     requires can { CanDoAll lines.now }
     requires few { length lines.now ≤ 65536 }
     requires room { length lines.now ≤ session.old.room }

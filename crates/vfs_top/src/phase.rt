@@ -4,16 +4,17 @@ ghost use Rattle.session_text.specs.Lines.{shown_text};
 ghost use Rattle.session_text.specs.declared.shown.Shown.TheVariants.{Replied};
 ghost use Rattle.downloaders.specs.Rules.{HasChunk};
 ghost use Rattle.run_words.specs.Words.{meaning};
-ghost use Rattle.one_session.specs.Causes.{AreGiven};
+ghost use Rattle.one_session.specs.Causes.{AreGiven, AreSaved};
 ghost use Rattle.one_session.specs.Slots.{Lends};
 ghost use Rattle.one_session.specs.Views.{given_all};
-ghost use Rattle.one_session.specs.Whole.{IsUpTo};
 ghost use Rattle.vfs_top.specs.Around.{around};
 ghost use Rattle.vfs_top.specs.Event.{Moves, maker_at, pause_shown};
-ghost use Rattle.vfs_top.specs.Going.{CanDo, DoesLine, now};
+ghost use Rattle.vfs_top.specs.Going.{CanDo, DoesLine, IsPast, TicksLine, now};
+ghost use Rattle.vfs_top.specs.Phases.{terms_of};
 ghost use Rattle.vfs_top.specs.Transcript.{shown_texts};
 ghost use Rattle.vfs_top.specs.Writing.{Writes};
 
+use crate::tick::tick;
 use crate::write::{Unwritten, write_paused};
 use one_session::OneSession;
 use run_words::RunWords;
@@ -37,7 +38,7 @@ pub enum Pause {
 }
 
 /// The maker of what the first session does in a phase at a moment, in milliseconds.
-fn maker_at(phase: u32, moment: u64) -> By
+pub(crate) fn maker_at(phase: u32, moment: u64) -> By
     ensures { result ≡ maker_at phase moment }
 {
     By {
@@ -65,8 +66,8 @@ pub fn first_phase<C: Clock>(clock: &mut C) -> Phase
     }
 }
 
-/// Does what a line asks for: makes its call, or ends the phase that is under way, moves the clock where it is to, and begins
-/// the next one. Where the sink fails none is begun.
+/// Does what a line asks for: makes its call, or ends the phase that is under way, moves the clock where it is to or has the
+/// files uploaded that are due, and begins the next one. Where the sink fails none is begun.
 pub fn do_line<K: Sink, R: Remote, D: CacheDisk, C: Clock, G: Gate>(
     alloc: Global,
     run: &RunWords,
@@ -84,12 +85,17 @@ pub fn do_line<K: Sink, R: Remote, D: CacheDisk, C: Clock, G: Gate>(
     requires actor { phase.old.by.who.actor ≡ Session 1 }
     requires pass { phase.old.by.pass ≡ 0 }
     requires now { phase.old.by.now ≤ 2 ^ 62 }
-    requires later { IsUpTo phase.old.by session.old.files }
+    requires moment { phase.old.by.now ≤ C.moment clock.old }
+    requires past { IsPast phase.old.by session.old }
     requires given { AreGiven R.Object.tells (R.outside remote.old).handed
         (given_all session.old.items) }
+    requires saved { AreSaved D.File.tells R.Object.tells (R.outside remote.old).handed
+        session.old.files }
+    requires terms { session.old.terms ≡ terms_of (meaning run.now) }
     requires lends { Lends D.tells (length session.old.files) (D.disk disk.old) }
     requires chunk { HasChunk run.now.plan.chunk }
-    requires few { phase.old.by.who.phase ≤ 65536 }
+    requires transfers { 1 ≤ run.now.transfers }
+    requires few { phase.old.by.who.phase ≤ 131071 }
     requires before { phase.old.before ≤ length session.old.records }
     requires clock { C.moment clock.old ≤ 2 ^ 62 }
     ensures does { DoesLine D.File.tells R.Object.tells (meaning run.now) line.now.line line.now.what phase.old phase.new
@@ -107,6 +113,9 @@ pub fn do_line<K: Sink, R: Remote, D: CacheDisk, C: Clock, G: Gate>(
             Ok(())
         }
         What::Join => end_phase(alloc, session, sink, clock, phase, line.line, Pause::Join),
+        What::Tick => tick(
+            alloc, run, session, sink, remote, clock, phase, line.line, gate,
+        ),
         What::Advance(ms) => {
             let pause = Pause::Advance(*ms);
             end_phase(alloc, session, sink, clock, phase, line.line, pause)
@@ -142,7 +151,7 @@ fn end_phase<K: Sink, C: Clock, O: Object, F: CacheFile>(
     line: u32,
     pause: Pause,
 ) -> Result<(), Unwritten>
-    requires few { phase.old.by.who.phase ≤ 65536 }
+    requires few { phase.old.by.who.phase ≤ 131071 }
     requires before { phase.old.before ≤ length session.now.records }
     requires clock { C.moment clock.old ≤ 2 ^ 62 }
     ensures text { Writes (K.written sink.old) (K.written sink.new) (K.faults sink.old) (K.faults sink.new)

@@ -29,6 +29,7 @@ pub fn prepare<'a, S: Source>(
         (S.left source.old) (S.left source.new) (meaning job.run) job.script) }
     ensures chunk { IfOk result (λ job. HasChunk job.run.plan.chunk) }
     ensures small { IfOk result (λ job. job.run.write_back ≤ 2 ^ 40) }
+    ensures transfers { IfOk result (λ job. 1 ≤ job.run.transfers) }
     ensures can { IfOk result (λ job. CanDoAll job.script) }
     ensures few { IfOk result (λ job. length job.script ≤ 65536) }
     ensures stops { IfErr result (λ stop. Stops (map string_bytes words.now)

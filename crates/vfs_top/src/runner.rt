@@ -161,6 +161,7 @@ fn start<K: Sink, R: Remote, D: CacheDisk, C: Clock, G: Gate>(
 ) -> Kept<R::Object, D::File>
     requires free { (slot : ℕ) → (D.disk disk.old).out slot ≡ false }
     requires chunk { HasChunk run.now.plan.chunk }
+    requires transfers { 1 ≤ run.now.transfers }
     requires small { run.now.write_back ≤ 2 ^ 40 }
     requires can { CanDoAll lines.now }
     requires few { length lines.now ≤ 65536 }

@@ -45,6 +45,7 @@ pub fn run_script<K: Sink, R: Remote, D: CacheDisk, C: Clock, G: Gate>(
 ) -> Kept<R::Object, D::File>
     requires lends { Lends D.tells 0 (D.disk disk.old) }
     requires chunk { HasChunk run.now.plan.chunk }
+    requires transfers { 1 ≤ run.now.transfers }
     requires small { run.now.write_back ≤ 2 ^ 40 }
     requires can { CanDoAll lines.now }
     requires few { length lines.now ≤ 65536 }
@@ -142,6 +143,7 @@ fn run_begun<K: Sink, R: Remote, D: CacheDisk, C: Clock, G: Gate>(
     requires files { session.files ≡ [] }
     requires untouched { IsUntouched session }
     requires chunk { HasChunk run.now.plan.chunk }
+    requires transfers { 1 ≤ run.now.transfers }
     requires can { CanDoAll lines.now }
     requires few { length lines.now ≤ 65536 }
     requires records { length lines.now ≤ session.room }

@@ -7,7 +7,7 @@ use remote_memory::{MemoryRemote, RemoteCall};
 use std::alloc::Global;
 use std::process::Abort;
 use std::test::Fail;
-use vfs_names::VPath;
+use vfs_names::{Blob, VPath};
 use vfs_outside::{MemorySink, MemorySource, OpenGate, Remote, ScriptClock};
 
 mod cached;
@@ -16,12 +16,16 @@ mod disk_faults;
 mod disk_image;
 mod disk_stops;
 mod folder;
+mod moved;
 mod objects;
 mod odd_remote;
 mod phases;
 mod plain;
 mod replaced;
+mod shared_folder;
 mod steps;
+mod ticks;
+mod uploaded;
 mod waiting;
 
 use odd_remote::OddRemote;
@@ -358,7 +362,7 @@ fn the_first_bad_line_is_told(rt: HostRuntime) -> Result<(), Fail> {
         (b"s1 close 0\n\ns1 jump\ns1 hop\n", "3: verb"),
         (b"s1  close 0", "1: words"),
         (b"s17 close 0", "1: session"),
-        (b"tick", "1: unbuilt"),
+        (b"clean", "1: unbuilt"),
         (b"join\nrestart\n", "2: unbuilt"),
     ];
     for (script, told) in table {

@@ -1,6 +1,7 @@
 ghost use Rattle.std.specs.Prelude.{◌++◌, map};
 ghost use Rattle.session_text.specs.Lines.{end_text, shown_text, start_text};
 ghost use Rattle.session_text.specs.declared.shown.Shown.TheVariants.{Replied};
+ghost use Rattle.session_text.specs.declared.shown.Shown.TheVariants as shown;
 ghost use Rattle.vfs_top.specs.Epoch.{epoch_of};
 ghost use Rattle.vfs_outside.specs.Causes.{AppendsFront};
 ghost use Rattle.vfs_top.specs.Event.{pause_shown};
@@ -11,8 +12,9 @@ ghost use Rattle.vfs_top.specs.Writing.{Writes};
 use crate::phase::Pause;
 use crate::print::{print_ending, print_paused, print_replies};
 use crate::stop::{Stop, print_stop};
+use crate::tick::Ticked;
 use one_session::EpochLog;
-use session_text::{Record, print_start};
+use session_text::{Record, print_start, print_tick};
 use std::alloc::Global;
 use vfs_names::{Blob, NoMemory, QueueRow};
 use vfs_outside::{CacheFile, Object, Sink};
@@ -82,6 +84,24 @@ pub fn write_paused<K: Sink>(
 {
     let mut text = Blob::new(alloc);
     match print_paused(&mut text, records, line, pause, moment) {
+        Ok(()) => write(sink, &text),
+        Err(NoMemory) => Err(Unwritten::NoMemory),
+    }
+}
+
+/// Writes how many uploads of a line saved their file, and how many didn't.
+#[tactic(auto, using(crate::proofs::Texts::none_written))]
+pub fn write_ticked<K: Sink>(
+    alloc: Global,
+    sink: &mut K,
+    line: u32,
+    ticked: Ticked,
+) -> Result<(), Unwritten>
+    ensures { Writes (K.written sink.old) (K.written sink.new) (K.faults sink.old) (K.faults sink.new)
+        (shown_text (shown.Ticked line ticked.uploaded ticked.failed)) result }
+{
+    let mut text = Blob::new(alloc);
+    match print_tick(&mut text, line, ticked.uploaded, ticked.failed) {
         Ok(()) => write(sink, &text),
         Err(NoMemory) => Err(Unwritten::NoMemory),
     }

@@ -1,4 +1,4 @@
-use remote_memory::MemoryObject;
+use remote_folder::FolderObject;
 use std::alloc::Global;
 use vfs_names::{Blob, Fingerprint, VPath};
 use vfs_outside::{Kind, Listing, Remote, RemoteError, Row, Rows};
@@ -28,7 +28,7 @@ impl OddRemote {
 }
 
 impl Remote for OddRemote {
-    type Object = MemoryObject;
+    type Object = FolderObject<HostRuntime>;
 
     type Stage = NoStage;
 
@@ -51,13 +51,19 @@ impl Remote for OddRemote {
 
     ghost told_objects = { λ t. absurd t };
 
+    ghost told_by_objects = { λ t. absurd t };
+
     ghost told_stages = { λ t. absurd t };
 
     fn attach(&mut self, _name: &str) -> Result<(), RemoteError> {
         Ok(())
     }
 
-    fn open_object(&mut self, _alloc: Global, _path: &VPath) -> Result<MemoryObject, RemoteError> {
+    fn open_object(
+        &mut self,
+        _alloc: Global,
+        _path: &VPath,
+    ) -> Result<FolderObject<HostRuntime>, RemoteError> {
         self.changes = self.changes.saturating_add(1);
         Err(RemoteError::Missing)
     }

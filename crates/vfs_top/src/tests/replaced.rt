@@ -1,9 +1,8 @@
 use super::folder::{put, run_remote};
+use super::shared_folder::{Other, SharedFolder};
 use super::*;
 use remote_folder::FolderRemote;
 use std::{fs, io};
-use vfs_names::Fingerprint;
-use vfs_outside::{Listing, RemoteError};
 
 const FOLDER: &str = "vfs_top_replaced";
 
@@ -16,17 +15,19 @@ enum Deed {
     Removes,
 }
 
-/// The store of a folder where a deed is done right before a file is opened.
+/// Somebody who does a deed before the object at a path is opened.
 #[derive(Drop)]
-struct SharedFolder<R: Remote> {
-    inner: R,
+struct Meddler {
     rt: HostRuntime,
     opened: &'static str,
     deed: Deed,
 }
 
-impl<R: Remote> SharedFolder<R> {
-    fn do_deed(&self) -> io::Result<()> {
+impl Other for Meddler {
+    fn before_open(&self, path: &str) -> io::Result<()> {
+        if path != self.opened {
+            return Ok(());
+        }
         match self.deed {
             Deed::Nothing => Ok(()),
             Deed::RenamesOver(bytes, mtime) => {
@@ -37,56 +38,9 @@ impl<R: Remote> SharedFolder<R> {
             Deed::Removes => fs::remove_file(&self.rt, "vfs_top_replaced/a"),
         }
     }
-}
 
-impl<R: Remote> Remote for SharedFolder<R> {
-    type Object = R::Object;
-
-    type Stage = R::Stage;
-
-    ghost tells = { ⊥ };
-
-    ghost outside = { λ r. R.outside r.inner };
-
-    ghost staged = { R.staged };
-
-    ghost stage_len = { R.stage_len };
-
-    ghost told_objects = { λ t. absurd t };
-
-    ghost told_stages = { λ t. absurd t };
-
-    fn attach(&mut self, name: &str) -> Result<(), RemoteError> {
-        self.inner.attach(name)
-    }
-
-    fn open_object(&mut self, alloc: Global, path: &VPath) -> Result<R::Object, RemoteError> {
-        if path.as_str() == self.opened && self.do_deed().is_err() {
-            return Err(RemoteError::NoMemory);
-        }
-        self.inner.open_object(alloc, path)
-    }
-
-    fn list(&mut self, alloc: Global, dir: &VPath) -> Result<Listing, RemoteError> {
-        self.inner.list(alloc, dir)
-    }
-
-    fn stage(&mut self, alloc: Global) -> Result<R::Stage, RemoteError> {
-        self.inner.stage(alloc)
-    }
-
-    fn append(&mut self, stage: &mut R::Stage, bytes: &[u8]) -> Result<(), RemoteError> {
-        self.inner.append(stage, bytes)
-    }
-
-    fn commit(
-        &mut self,
-        alloc: Global,
-        stage: R::Stage,
-        path: &VPath,
-        mtime: u64,
-    ) -> Result<Fingerprint, RemoteError> {
-        self.inner.commit(alloc, stage, path, mtime)
+    fn before_stage(&mut self) -> io::Result<()> {
+        Ok(())
     }
 }
 
@@ -159,9 +113,11 @@ fn run_deed(
     put(rt, "vfs_top_replaced/b", b"", 1000)?;
     let remote = SharedFolder {
         inner: FolderRemote::new(rt.alloc(), *rt),
-        rt: *rt,
-        opened,
-        deed,
+        other: Meddler {
+            rt: *rt,
+            opened,
+            deed,
+        },
     };
     let seen = run_remote(rt, FOLDER, "2B", script, remote)?;
     fs::remove_dir_all(rt, FOLDER)?;

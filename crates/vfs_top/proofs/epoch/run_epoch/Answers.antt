@@ -18,6 +18,7 @@ returns-in-Err g c =
     (record {
       tree = log.tree;
       files = log.files;
+      told = log.told;
       queue = log.queue;
       queued = log.queued;
       records = log.records;

@@ -11,6 +11,7 @@ returns-in-Ok g c = let log = c.into_log-log.ensures in
     (record {
       tree = log.tree;
       files = log.files;
+      told = log.told;
       queue = log.queue;
       queued = log.queued;
       records = log.records;
@@ -31,6 +32,7 @@ returns-in-Err g c = let log = c.into_log.ensures in
     (record {
       tree = log.tree;
       files = log.files;
+      told = log.told;
       queue = log.queue;
       queued = log.queued;
       records = log.records;

@@ -10,4 +10,4 @@ returns-in-Ok-reserve-clause-new g c =
 
 pub returns-in-Ok-reserve-clause-untouched : goal.returns-in-Ok-reserve-clause-untouched
 returns-in-Ok-reserve-clause-untouched g c =
-    subst IsUntouched (sym c.in-Ok-reserve.ensures.ok) (untouched_still c.in-Ok.session c.reserve.new.self.room (record { items = c.in-Ok.ensures.untouched; steps = c.in-Ok.ensures.steps; queue = c.in-Ok.ensures.queue }))
+    subst IsUntouched (sym c.in-Ok-reserve.ensures.ok) (untouched_still c.in-Ok.session c.reserve.new.self.room (record { tree = c.in-Ok.ensures.tree; items = c.in-Ok.ensures.untouched; steps = c.in-Ok.ensures.steps; queue = c.in-Ok.ensures.queue }))

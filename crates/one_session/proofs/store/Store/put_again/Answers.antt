@@ -53,7 +53,7 @@ returns-in-Err-clause-sound g c = let s = c.requires.sound in
       sound = subst (λ l. IsSound c.args.self.now.tree.entries c.args.self.now.paths.paths l c.args.self.now.table.items) (sym same) s.sound;
       limit = s.limit ∙ sym c.begin.ensures.limit;
       items = rw c.begin.ensures.limit (items_on g.F.CacheFile.tells c.args.self.now.files.limit c.args.self.now.files.items c.begin.new.self.items c.args.item c.begin.ensures.one c.requires.inside
-          (sound_on g.F.CacheFile.tells c.args.self.now.files.limit c.args.item (item_in c.args.self.now.files.items c.args.item) (item_in c.begin.new.self.items c.args.item) [] (s.items c.args.item c.requires.inside) c.in-Err.ensures.did.same c.in-Err.ensures.did.err tt) s.items);
+          (sound_on g.F.CacheFile.tells c.args.self.now.files.limit c.args.item (item_in c.args.self.now.files.items c.args.item) (item_in c.begin.new.self.items c.args.item) [] (s.items c.args.item c.requires.inside) c.in-Err.ensures.did.same c.in-Err.ensures.did.err) s.items);
       settled = s.settled;
     }
 

@@ -23,8 +23,8 @@ returns-in-Ok-clause-later g c = let at : file_at c.args.self.now.table.items c.
     read_later g.F.CacheFile.tells g.O.Object.tells c.args.plan.now c.args.self.now (record c.args.self.now { files = c.read.new.self }) c.args.handle c.args.pos c.args.len c.end-place.result c.in-Some.opened c.args.by (recorded 0 c.of_file.result) c.requires.sound at c.requires.actor c.requires.pass c.requires.later refl refl refl c.read.ensures.limit c.read.ensures.one c.of_file.ensures.tree c.end-place.ensures c.in-Ok.found c.in-Ok.ensures.did c.of_file.ensures.reply c.of_file.ensures.file
 
 pub returns-in-Ok-clause-did : goal.returns-in-Ok-clause-did
-returns-in-Ok-clause-did g c = λ handed given line. let at : file_at c.args.self.now.table.items c.args.handle ≡ Some c.in-Some.opened = sym c.file_of.ensures ∙ c.in-Some.is in
-    read_did g.F.CacheFile.tells g.O.Object.tells c.args.plan.now c.args.self.now (record c.args.self.now { files = c.read.new.self }) c.args.handle c.args.pos c.args.len c.end-place.result c.in-Some.opened c.args.by (recorded line c.of_file.result) c.requires.sound at c.requires.actor c.requires.pass c.requires.later refl refl refl c.read.ensures.limit c.read.ensures.one c.of_file.ensures.tree c.end-place.ensures c.in-Ok.found c.in-Ok.ensures.did c.of_file.ensures.reply c.of_file.ensures.file handed given
+returns-in-Ok-clause-did g c = λ handed given saved line. let at : file_at c.args.self.now.table.items c.args.handle ≡ Some c.in-Some.opened = sym c.file_of.ensures ∙ c.in-Some.is in
+    read_did g.F.CacheFile.tells g.O.Object.tells c.args.plan.now c.args.self.now (record c.args.self.now { files = c.read.new.self }) c.args.handle c.args.pos c.args.len c.end-place.result c.in-Some.opened c.args.by (recorded line c.of_file.result) c.requires.sound at c.requires.actor c.requires.pass c.requires.later refl refl refl c.read.ensures.limit c.read.ensures.one c.of_file.ensures.tree c.end-place.ensures c.in-Ok.found c.in-Ok.ensures.did c.of_file.ensures.reply c.of_file.ensures.file handed given saved
 
 pub returns-in-Ok-clause-given : goal.returns-in-Ok-clause-given
 returns-in-Ok-clause-given g c = let at : file_at c.args.self.now.table.items c.args.handle ≡ Some c.in-Some.opened = sym c.file_of.ensures ∙ c.in-Some.is in
@@ -47,7 +47,7 @@ returns-in-Err-clause-later g c = let at : file_at c.args.self.now.table.items c
     unread_later g.F.CacheFile.tells g.O.Object.tells c.args.plan.now c.args.self.now (record c.args.self.now { files = c.read.new.self }) c.args.handle c.args.pos c.args.len c.end-place.result c.in-Some.opened c.args.by (recorded 0 c.of_refusal.result) c.requires.sound at c.requires.actor c.requires.pass c.requires.later refl refl refl c.read.ensures.limit c.read.ensures.one c.of_refusal.ensures.tree c.end-place.ensures c.in-Err.why c.in-Err.ensures.did c.of_refusal.ensures.reply c.of_refusal.ensures.file
 
 pub returns-in-Err-clause-did : goal.returns-in-Err-clause-did
-returns-in-Err-clause-did g c = λ handed given line. let at : file_at c.args.self.now.table.items c.args.handle ≡ Some c.in-Some.opened = sym c.file_of.ensures ∙ c.in-Some.is in
+returns-in-Err-clause-did g c = λ handed given saved line. let at : file_at c.args.self.now.table.items c.args.handle ≡ Some c.in-Some.opened = sym c.file_of.ensures ∙ c.in-Some.is in
     unread_did g.F.CacheFile.tells g.O.Object.tells c.args.plan.now c.args.self.now (record c.args.self.now { files = c.read.new.self }) c.args.handle c.args.pos c.args.len c.end-place.result c.in-Some.opened c.args.by (recorded line c.of_refusal.result) c.requires.sound at c.requires.actor c.requires.pass c.requires.later refl refl refl c.read.ensures.limit c.read.ensures.one c.of_refusal.ensures.tree c.end-place.ensures c.in-Err.why c.in-Err.ensures.did c.of_refusal.ensures.reply c.of_refusal.ensures.file (Knows g.F.CacheFile.tells g.O.Object.tells handed) (λ e. handle_full g.F.CacheFile.tells c.args.self.now c.args.handle c.in-Some.opened c.requires.sound at (c.in-Err.ensures.did.full (ap Err e)))
 
 pub returns-in-Err-clause-given : goal.returns-in-Err-clause-given
